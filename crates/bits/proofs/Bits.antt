@@ -1,0 +1,192 @@
+-- Lists of bits, the bits of a number and the number of bits: one turn of each loop, lengths, and how both go back and forth.
+-- Assumes nothing.
+use mathlib.Core.Path.{_≡_, refl, sym, ap, _∙_}
+use mathlib.Core.Bool.{Bool, true, false}
+use mathlib.Core.List.{List, [], _∷_, _++_}
+use Prim.Native.Nat.{ℕ, zero, suc, _+_, _-_, _*_, _/_, _%_, _^_, _≤_, _<_}
+use native.Mathlib.Nat.{zero-add, suc-add, pow-suc, mul-assoc}
+use native.Mathlib.Omega.{arith}
+use borrow.Author.Tests.{lt-leb, le-leb, leb-true}
+use lib.Dec.{leb}
+use lib.ListN.{length, getD, take, drop}
+use lib.Seq.{drop-length, take-all}
+use Rattle.laws.specs.Tests.{both}
+use Rattle.laws.proofs.Tests.{both-left, both-right, both-no}
+use Rattle.laws.proofs.Lists.{next}
+use Rattle.bits.specs.Bits.{lowFirst, highFirst, lowValue, allBits}
+
+-- ---- lists of bits
+
+pub allBits-no : (b : ℕ) (bs : List ℕ) → 1 < b → allBits (b ∷ bs) ≡ false
+unfolding allBits
+allBits-no b bs h = ap (λ (t : Bool). both t (allBits bs)) (lt-leb b 1 h)
+
+pub allBits-more : (b : ℕ) (bs : List ℕ) → b ≤ 1 → allBits (b ∷ bs) ≡ allBits bs
+unfolding allBits
+allBits-more b bs h = ap (λ (t : Bool). both t (allBits bs)) (le-leb b 1 h)
+
+pub allBits-end : allBits [] ≡ true
+unfolding allBits
+allBits-end = refl
+
+pub bit-head : (b : ℕ) (bs : List ℕ) → allBits (b ∷ bs) ≡ true → b ≤ 1
+unfolding allBits
+bit-head b bs e = leb-true b 1 (both-left (leb b 1) (allBits bs) e)
+
+pub bit-tail : (b : ℕ) (bs : List ℕ) → allBits (b ∷ bs) ≡ true → allBits bs ≡ true
+unfolding allBits
+bit-tail b bs e = both-right (leb b 1) (allBits bs) e
+
+pub allBits-drop : (n : ℕ) (xs : List ℕ) → allBits xs ≡ true → allBits (drop n xs) ≡ true
+allBits-drop zero xs e = e
+allBits-drop (suc n) [] e = e
+allBits-drop (suc n) (x ∷ xs) e = allBits-drop n xs (bit-tail x xs e)
+
+pub allBits-take : (n : ℕ) (xs : List ℕ) → allBits xs ≡ true → allBits (take n xs) ≡ true
+allBits-take zero xs e = allBits-end
+allBits-take (suc n) [] e = e
+allBits-take (suc n) (x ∷ xs) e = allBits-more x (take n xs) (bit-head x xs e) ∙ allBits-take n xs (bit-tail x xs e)
+
+pub bit-at : (xs : List ℕ) (i : ℕ) → allBits xs ≡ true → i < length xs → getD xs i 0 ≤ 1
+bit-at xs i e h = bit-head (getD xs i 0) (drop (i + 1) xs) (rw (next xs i h) at (allBits-drop i xs e))
+
+pub allBits-append : (xs ys : List ℕ) → allBits xs ≡ true → allBits ys ≡ true → allBits (xs ++ ys) ≡ true
+allBits-append [] ys e f = f
+allBits-append (x ∷ xs) ys e f = allBits-more x (xs ++ ys) (bit-head x xs e) ∙ allBits-append xs ys (bit-tail x xs e) f
+
+-- what `are_bits` keeps: the greatest so far, and what is left
+abbrev pub upTo : ℕ → List ℕ → Bool
+upTo most bs = both (leb most 1) (allBits bs)
+
+pub upTo-larger : (most b : ℕ) (bs : List ℕ) → most < b → upTo most (b ∷ bs) ≡ upTo b bs
+unfolding allBits
+upTo-larger most b bs h = go (leb b 1) refl
+  where
+    go : (t : Bool) → leb b 1 ≡ t → both (leb most 1) (both (leb b 1) (allBits bs)) ≡ both (leb b 1) (allBits bs)
+    go true e = simp (le-leb most 1 (omega (arith, leb-true b 1 e)))
+    go false e = simp (e, both-no)
+
+pub upTo-same : (most b : ℕ) (bs : List ℕ) → b ≤ most → upTo most (b ∷ bs) ≡ upTo most bs
+unfolding allBits
+upTo-same most b bs h = go (leb most 1) refl
+  where
+    go : (t : Bool) → leb most 1 ≡ t → both (leb most 1) (both (leb b 1) (allBits bs)) ≡ both (leb most 1) (allBits bs)
+    go true e = simp (le-leb b 1 (omega (arith, leb-true most 1 e)))
+    go false e = simp e
+
+pub upTo-end : (most : ℕ) → upTo most [] ≡ leb most 1
+unfolding allBits
+upTo-end most = go (leb most 1)
+  where
+    go : (t : Bool) → both t true ≡ t
+    go true = refl
+    go false = refl
+
+-- ---- the bits of a number
+
+pub low-bits : (n v : ℕ) → allBits (lowFirst n v) ≡ true
+unfolding lowFirst
+low-bits zero v = allBits-end
+low-bits (suc n) v = allBits-more (v % 2) _ (omega arith) ∙ low-bits n (v / 2)
+
+pub high-bits : (n v : ℕ) → allBits (highFirst n v) ≡ true
+unfolding highFirst
+high-bits zero v = allBits-end
+high-bits (suc n) v = allBits-more (v / 2 ^ n % 2) _ (omega arith) ∙ high-bits n v
+
+pub highFirst-pos : (n v : ℕ) → 0 < n → highFirst n v ≡ v / 2 ^ (n - 1) % 2 ∷ highFirst (n - 1) v
+unfolding highFirst
+highFirst-pos zero v h = absurd (omega arith)
+highFirst-pos (suc n) v h = let e : suc n - 1 ≡ n = omega arith in rw e
+
+pub length-highFirst : (n v : ℕ) → length (highFirst n v) ≡ n
+unfolding highFirst
+length-highFirst zero v = refl
+length-highFirst (suc n) v = ap suc (length-highFirst n v)
+
+pub length-lowFirst : (n v : ℕ) → length (lowFirst n v) ≡ n
+unfolding lowFirst
+length-lowFirst zero v = refl
+length-lowFirst (suc n) v = ap suc (length-lowFirst n (v / 2))
+
+-- a bit of a number of two bytes is a bit of its upper or of its lower byte
+upper-bits : (v : ℕ) → (v / 2 ^ 15 % 2 ≡ v / 256 / 2 ^ 7 % 2) × (v / 2 ^ 14 % 2 ≡ v / 256 / 2 ^ 6 % 2) × (v / 2 ^ 13 % 2 ≡ v / 256 / 2 ^ 5 % 2) × (v / 2 ^ 12 % 2 ≡ v / 256 / 2 ^ 4 % 2) × (v / 2 ^ 11 % 2 ≡ v / 256 / 2 ^ 3 % 2) × (v / 2 ^ 10 % 2 ≡ v / 256 / 2 ^ 2 % 2) × (v / 2 ^ 9 % 2 ≡ v / 256 / 2 ^ 1 % 2) × (v / 2 ^ 8 % 2 ≡ v / 256 / 2 ^ 0 % 2)
+upper-bits v = (omega arith, omega arith, omega arith, omega arith, omega arith, omega arith, omega arith, omega arith)
+
+lower-bits : (v : ℕ) → (v / 2 ^ 7 % 2 ≡ v % 256 / 2 ^ 7 % 2) × (v / 2 ^ 6 % 2 ≡ v % 256 / 2 ^ 6 % 2) × (v / 2 ^ 5 % 2 ≡ v % 256 / 2 ^ 5 % 2) × (v / 2 ^ 4 % 2 ≡ v % 256 / 2 ^ 4 % 2) × (v / 2 ^ 3 % 2 ≡ v % 256 / 2 ^ 3 % 2) × (v / 2 ^ 2 % 2 ≡ v % 256 / 2 ^ 2 % 2) × (v / 2 ^ 1 % 2 ≡ v % 256 / 2 ^ 1 % 2) × (v / 2 ^ 0 % 2 ≡ v % 256 / 2 ^ 0 % 2)
+lower-bits v = (omega arith, omega arith, omega arith, omega arith, omega arith, omega arith, omega arith, omega arith)
+
+pub high-split : (v : ℕ) → highFirst 16 v ≡ highFirst 8 (v / 256) ++ highFirst 8 (v % 256)
+unfolding highFirst
+high-split v = let u = upper-bits v in let l = lower-bits v in cc
+
+-- ---- the number of bits
+
+pub value-drop : (j : ℕ) (bits : List ℕ) → lowValue (drop j bits) ≤ lowValue bits
+unfolding lowValue
+value-drop zero bits = omega arith
+value-drop (suc j) [] = omega arith
+value-drop (suc j) (b ∷ bs) = omega (arith, value-drop j bs)
+
+pub value-end : (bits : List ℕ) → 0 ≡ lowValue (drop (length bits) bits)
+unfolding lowValue
+value-end bits = rw (drop-length bits)
+
+pub value-turn : (bits : List ℕ) (j : ℕ) → 0 < j → j ≤ length bits → lowValue (drop (j - 1) bits) ≡ lowValue (drop j bits) * 2 + getD bits (j - 1) 0
+unfolding lowValue
+value-turn bits j pos h =
+    let e : j - 1 + 1 ≡ j = omega arith in
+    let n = next bits (j - 1) (omega arith) in
+    rw (n, e) (omega arith)
+
+pub value-bound : (n : ℕ) (bits : List ℕ) → allBits bits ≡ true → lowValue (take n bits) < 2 ^ n
+unfolding lowValue
+value-bound zero bits e = omega arith
+value-bound (suc n) [] e = omega (arith, value-bound n [] e)
+value-bound (suc n) (b ∷ bs) e = omega (arith, value-bound n bs (bit-tail b bs e), bit-head b bs e)
+
+pub value-byte : (bits : List ℕ) → length bits ≡ 8 → allBits bits ≡ true → lowValue bits < 256
+value-byte bits l e = rw (take-all 8 bits (omega arith)) at (value-bound 8 bits e)
+
+pub value-eight : (v : ℕ) → lowValue (lowFirst 8 v) ≡ v % 256
+unfolding lowValue lowFirst
+value-eight v = omega arith
+
+-- ---- the bits of two numbers, one after the other
+
+pub low-append : (h m a v : ℕ) → a < 2 ^ h → lowFirst h a ++ lowFirst m v ≡ lowFirst (h + m) (a + v * 2 ^ h)
+unfolding lowFirst
+low-append zero m a v small =
+    let e : a + v * 2 ^ 0 ≡ v = omega arith in
+    rw (e, zero-add m)
+low-append (suc h) m a v small =
+    let p : v * 2 ^ suc h ≡ v * 2 ^ h * 2 = ap (v *_) (pow-suc 2 h) ∙ sym (mul-assoc v (2 ^ h) 2) in
+    let r : (a + v * 2 ^ suc h) % 2 ≡ a % 2 = rw p (omega arith) in
+    let q : (a + v * 2 ^ suc h) / 2 ≡ a / 2 + v * 2 ^ h = rw p (omega arith) in
+    rw (suc-add h m, r, q) (ap (λ (t : List ℕ). a % 2 ∷ t) (low-append h m (a / 2) v (omega arith)))
+
+pub low-split : (h w : ℕ) → lowFirst (8 + h) w ≡ lowFirst 8 w ++ lowFirst h (w / 256)
+unfolding lowFirst
+low-split h w =
+    let n : 8 + h ≡ suc (suc (suc (suc (suc (suc (suc (suc h))))))) = omega arith in
+    let e : w / 2 / 2 / 2 / 2 / 2 / 2 / 2 / 2 ≡ w / 256 = omega arith in
+    rw (n, e)
+
+-- ---- there and back
+
+pub value-back : (n v : ℕ) → v < 2 ^ n → lowValue (lowFirst n v) ≡ v
+unfolding lowValue lowFirst
+value-back zero v h = omega arith
+value-back (suc n) v h = omega (arith, value-back n (v / 2) (omega arith))
+
+-- bits come back from the byte that they make
+pub bits-back : (n : ℕ) (bs : List ℕ) → length bs ≡ n → allBits bs ≡ true → lowFirst n (lowValue bs) ≡ bs
+unfolding lowFirst lowValue
+bits-back zero [] l e = refl
+bits-back zero (b ∷ bs) l e = absurd (omega arith)
+bits-back (suc n) [] l e = absurd (omega arith)
+bits-back (suc n) (b ∷ bs) l e =
+    let h = bit-head b bs e in
+    let m : (b + 2 * lowValue bs) % 2 ≡ b = omega arith in
+    let d : (b + 2 * lowValue bs) / 2 ≡ lowValue bs = omega arith in
+    rw (m, d) (ap (λ (t : List ℕ). b ∷ t) (bits-back n bs (omega arith) (bit-tail b bs e)))

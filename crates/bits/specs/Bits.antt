@@ -1,0 +1,52 @@
+-- Bits of numbers as lists of 0 and 1, and bytes as they are sent.
+-- Assumes nothing.
+use Prim.Native.Nat.{ℕ, zero, suc, _+_, _*_, _/_, _%_, _^_}
+use mathlib.Core.Bool.{Bool, true, false}
+use mathlib.Core.List.{List, [], _∷_, _++_}
+use lib.Dec.{leb}
+use lib.ListN.{length, take, drop}
+use Rattle.laws.specs.Tests.{both}
+
+-- the low n bits of v, the lowest first
+unfoldable pub lowFirst : ℕ → ℕ → List ℕ
+lowFirst zero v = []
+lowFirst (suc n) v = v % 2 ∷ lowFirst n (v / 2)
+
+-- the low n bits of v, the highest first
+unfoldable pub highFirst : ℕ → ℕ → List ℕ
+highFirst zero v = []
+highFirst (suc n) v = v / 2 ^ n % 2 ∷ highFirst n v
+
+-- the number whose bits these are, the lowest first
+unfoldable pub lowValue : List ℕ → ℕ
+lowValue [] = 0
+lowValue (b ∷ bs) = b + 2 * lowValue bs
+
+-- the number whose bits these are, the highest first, after those of a
+unfoldable pub highValue : ℕ → List ℕ → ℕ
+highValue a [] = a
+highValue a (b ∷ bs) = highValue (a * 2 + b) bs
+
+-- a byte with its eight bits reversed
+unfoldable pub turned : ℕ → ℕ
+unfolding highValue lowFirst
+turned b = highValue 0 (lowFirst 8 b)
+
+-- every element is 0 or 1
+unfoldable pub allBits : List ℕ → Bool
+allBits [] = true
+allBits (b ∷ bs) = both (leb b 1) (allBits bs)
+
+-- the bits of bytes as sent: byte by byte, the low bit first
+unfoldable pub sentBits : List ℕ → List ℕ
+sentBits [] = []
+sentBits (b ∷ bs) = lowFirst 8 b ++ sentBits bs
+
+-- the n bytes that were sent so
+unfoldable pub bytesOf : ℕ → List ℕ → List ℕ
+bytesOf zero bits = []
+bytesOf (suc n) bits = lowValue (take 8 bits) ∷ bytesOf n (drop 8 bits)
+
+-- the whole bytes that these bits make; bits that make none are left out
+unfoldable pub bytesIn : List ℕ → List ℕ
+bytesIn bits = bytesOf (length bits / 8) bits

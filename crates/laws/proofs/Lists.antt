@@ -1,0 +1,99 @@
+-- Lists as loops go through them, what stores one after the other come to, and the test for equal lists.
+-- Assumes nothing.
+use mathlib.Core.Path.{_≡_, refl, sym, ap, _∙_}
+use mathlib.Core.Bool.{Bool, true, false}
+use mathlib.Core.List.{List, [], _∷_, _++_, append-nil}
+use Prim.Native.Nat.{ℕ, zero, suc, _+_, _-_, _≤_, _<_}
+use native.Mathlib.Nat.{add-zero, add-suc, suc-add, zero-add}
+use native.Mathlib.Numerals.{add-one}
+use native.Mathlib.Omega.{arith}
+use borrow.Author.Tests.{eq-eqb, ne-eqb, eqb-true}
+use lib.Dec.{eqb}
+use lib.ListN.{length, getD, take, drop, set, drop-of-length-le, length-drop}
+use lib.Seq.{drop-cons, sets, sets-eq, take-at, take-all}
+use Rattle.laws.specs.Tests.{both}
+use Rattle.laws.specs.Lists.{over, same, AllBytes}
+use Rattle.laws.proofs.Tests.{both-left, both-right}
+
+-- ---- one more element read
+
+-- what is left at i begins with the element there
+pub next : (xs : List ℕ) (i : ℕ) → i < length xs → drop i xs ≡ getD xs i 0 ∷ drop (i + 1) xs
+next xs i h = rw add-one (drop-cons xs i 0 h)
+
+-- nothing is left at the end
+pub done : (xs : List ℕ) (i : ℕ) → length xs ≤ i → drop i xs ≡ []
+done xs i h = drop-of-length-le xs h
+
+-- a part up to the end is the rest
+pub rest-is : (m : ℕ) (xs : List ℕ) → take (length xs - m) (drop m xs) ≡ drop m xs
+rest-is m xs = take-all (length xs - m) (drop m xs) (omega (arith, length-drop m xs))
+
+-- ---- bytes
+
+pub all-bytes : (xs : List ℕ) → ((i : ℕ) → getD xs i 0 < 256) → AllBytes xs
+unfolding AllBytes
+all-bytes [] h = tt
+all-bytes (x ∷ xs) h = (h 0, all-bytes xs (λ i. h (suc i)))
+
+pub take-bytes : (n : ℕ) (xs : List ℕ) → AllBytes xs → AllBytes (take n xs)
+unfolding AllBytes
+take-bytes zero xs h = tt
+take-bytes (suc n) [] h = tt
+take-bytes (suc n) (x ∷ xs) h = (h .0, take-bytes n xs (h .1))
+
+-- ---- stores
+
+-- one store, and the rest from the next place on
+pub put-one : (out : List ℕ) (o b : ℕ) (xs : List ℕ) → sets (set out o b) (o + 1) xs ≡ sets out o (b ∷ xs)
+put-one out o b xs = rw (add-one o)
+
+pub sets-append : (xs ys out : List ℕ) (o : ℕ) → sets out o (xs ++ ys) ≡ sets (sets out o xs) (o + length xs) ys
+sets-append [] ys out o = rw (add-zero o)
+sets-append (x ∷ xs) ys out o = sets-append xs ys (set out o x) (suc o) ∙ ap (λ (k : ℕ). sets (sets (set out o x) (suc o) xs) k ys) (suc-add o (length xs) ∙ sym (add-suc o (length xs)))
+
+-- a list that was stored from the start
+pub stored-over : (xs l : List ℕ) → length xs ≤ length l → sets l 0 xs ≡ over xs l
+unfolding over
+stored-over xs l h = sets-eq xs l 0 (omega arith) ∙ ap (λ (k : ℕ). xs ++ drop k l) (zero-add (length xs))
+
+pub take-over : (xs l : List ℕ) (n : ℕ) → length xs ≡ n → take n (over xs l) ≡ xs
+unfolding over
+take-over xs l n e = take-at xs (drop (length xs) l) n e
+
+pub take-stored : (xs l : List ℕ) (n : ℕ) → length xs ≡ n → n ≤ length l → take n (sets l 0 xs) ≡ xs
+take-stored xs l n e h = ap (take n) (stored-over xs l (omega arith)) ∙ take-over xs l n e
+
+-- as many as there are places
+pub stored-all : (xs l : List ℕ) → length xs ≡ length l → sets l 0 xs ≡ xs
+unfolding over
+stored-all xs l e = stored-over xs l (omega arith) ∙ ap (xs ++_) (done l (length xs) (omega arith)) ∙ append-nil xs
+
+-- ---- equal lists
+
+pub same-more : (x y : ℕ) (xs ys : List ℕ) → x ≡ y → same (x ∷ xs) (y ∷ ys) ≡ same xs ys
+unfolding same
+same-more x y xs ys e = ap (λ (t : Bool). both t (same xs ys)) (eq-eqb x y e)
+
+pub same-no : (x y : ℕ) (xs ys : List ℕ) → (x ≡ y → ⊥) → same (x ∷ xs) (y ∷ ys) ≡ false
+unfolding same
+same-no x y xs ys h = ap (λ (t : Bool). both t (same xs ys)) (ne-eqb x y h)
+
+pub same-end : same [] [] ≡ true
+unfolding same
+same-end = refl
+
+pub same→eq : (xs ys : List ℕ) → same xs ys ≡ true → xs ≡ ys
+unfolding same
+same→eq [] [] e = refl
+same→eq [] (y ∷ ys) e = cc
+same→eq (x ∷ xs) [] e = cc
+same→eq (x ∷ xs) (y ∷ ys) e =
+    let p = eqb-true x y (both-left (eqb x y) (same xs ys) e) in
+    let q = same→eq xs ys (both-right (eqb x y) (same xs ys) e) in
+    cc
+
+pub same-refl : (xs : List ℕ) → same xs xs ≡ true
+unfolding same
+same-refl [] = refl
+same-refl (x ∷ xs) = same-more x x xs xs refl ∙ same-refl xs

@@ -1,0 +1,44 @@
+-- Tests by what led to them, and what a test says.
+-- Assumes nothing.
+use mathlib.Core.Path.{_≡_, refl, sym, ap, _∙_}
+use mathlib.Core.Bool.{Bool, true, false, not}
+use Prim.Native.Nat.{ℕ, _≤_, _<_}
+use borrow.Author.Tests.{le-leb, lt-leb, leb-true}
+use lib.Dec.{T, leb}
+use Rattle.laws.specs.Tests.{both, between}
+
+pub is-true : {b : Bool} → T b → b ≡ true
+is-true {b = true} t = refl
+is-true {b = false} t = absurd t
+
+pub was-false : {b : Bool} → not b ≡ true → b ≡ false
+was-false {b = true} e = sym e
+was-false {b = false} e = refl
+
+pub was-true : {b : Bool} → not b ≡ false → b ≡ true
+was-true {b = true} e = refl
+was-true {b = false} e = sym e
+
+pub both-left : (a b : Bool) → both a b ≡ true → a ≡ true
+both-left true b e = refl
+both-left false b e = e
+
+pub both-right : (a b : Bool) → both a b ≡ true → b ≡ true
+both-right true b e = e
+both-right false b e = cc
+
+pub both-no : (a : Bool) → both a false ≡ false
+both-no true = refl
+both-no false = refl
+
+pub between-yes : (a b n : ℕ) → a ≤ n → n ≤ b → between a b n ≡ true
+between-yes a b n h k = simp (le-leb a n h, le-leb n b k)
+
+pub between-low : (a b n : ℕ) → n < a → between a b n ≡ false
+between-low a b n h = simp (lt-leb a n h)
+
+pub between-high : (a b n : ℕ) → b < n → between a b n ≡ false
+between-high a b n h = ap (both (leb a n)) (lt-leb n b h) ∙ both-no (leb a n)
+
+pub between-is : (a b n : ℕ) → between a b n ≡ true → (a ≤ n) × (n ≤ b)
+between-is a b n e = (leb-true a n (both-left (leb a n) (leb n b) e), leb-true n b (both-right (leb a n) (leb n b) e))

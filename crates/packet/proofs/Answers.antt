@@ -1,0 +1,120 @@
+-- Which answer the tests on the way lead to.
+-- Assumes nothing.
+use mathlib.Core.Path.{_≡_, refl, sym, ap, _∙_}
+use mathlib.Core.Bool.{Bool, true, false}
+use mathlib.Core.List.{List}
+use Prim.Native.Nat.{ℕ, _+_, _-_, _*_, _/_, _%_, _≤_, _<_}
+use native.Mathlib.Omega.{arith}
+use borrow.Author.Tests.{le-leb, lt-leb, eq-eqb, ne-eqb}
+use lib.Dec.{leb}
+use lib.ListN.{length, take, drop}
+use Rattle.laws.specs.Tests.{both, pick, between, ladder}
+use Rattle.laws.specs.Lists.{same}
+use Rattle.laws.proofs.Tests.{between-yes, between-low, between-high, both-no}
+use Rattle.laws.proofs.Lists.{rest-is}
+use Rattle.numbers.specs.declared.Refusal.the-variants.{NotBits, BadLength, NoRoom, NoFlag, BadStuffing, NotWhole, BadCheck}
+use Rattle.bits.specs.Bits.{allBits}
+use Rattle.packet.specs.Stuff.{legal}
+use Rattle.packet.specs.Packet.{flag, packetOf, writeTests, writeAnswer, bodyOf, flagged, frameIn, wholeBytes, checked, frameTests, frameAnswer, bodyTests, bodyAnswer, readTests, readAnswer, payloadLength}
+use Rattle.packet.specs.declared.Written.{Written}
+use Rattle.packet.specs.declared.Written.the-variants.{Bits, Refused as NotWritten}
+use Rattle.packet.specs.declared.Received.{Received}
+use Rattle.packet.specs.declared.Received.the-variants.{Bytes, Refused}
+
+-- ---- writing
+
+pub write-low : (p : List ℕ) (m : ℕ) → length p < 1 → NotWritten BadLength ≡ writeAnswer p m
+unfolding writeAnswer
+write-low p m h = simp (between-low 1 21 (length p) h)
+
+pub write-high : (p : List ℕ) (m : ℕ) → 21 < length p → NotWritten BadLength ≡ writeAnswer p m
+unfolding writeAnswer
+write-high p m h = simp (between-high 1 21 (length p) h)
+
+pub write-room : (p : List ℕ) (m : ℕ) → 1 ≤ length p → length p ≤ 21 → m < 236 → NotWritten NoRoom ≡ writeAnswer p m
+unfolding writeAnswer
+write-room p m h k r = simp (between-yes 1 21 (length p) h k, lt-leb 236 m r)
+
+pub write-good : (p : List ℕ) (m : ℕ) → 1 ≤ length p → length p ≤ 21 → 236 ≤ m → Bits (length (packetOf p)) ≡ writeAnswer p m
+unfolding writeAnswer
+write-good p m h k r = simp (between-yes 1 21 (length p) h k, le-leb 236 m r)
+
+-- ---- unstuffed bits
+
+pub count-odd : (f : List ℕ) → (length f % 8 ≡ 0 → ⊥) → wholeBytes f ≡ false
+unfolding wholeBytes
+count-odd f h = simp (ne-eqb (length f % 8) 0 h)
+
+pub count-low : (f : List ℕ) → length f < 24 → wholeBytes f ≡ false
+unfolding wholeBytes
+count-low f h = simp (between-low 24 184 (length f) h, both-no)
+
+pub count-high : (f : List ℕ) → 184 < length f → wholeBytes f ≡ false
+unfolding wholeBytes
+count-high f h = simp (between-high 24 184 (length f) h, both-no)
+
+pub whole : (f : List ℕ) → length f % 8 ≡ 0 → 24 ≤ length f → length f ≤ 184 → wholeBytes f ≡ true
+unfolding wholeBytes
+whole f e h k = simp (eq-eqb (length f % 8) 0 e, between-yes 24 184 (length f) h k)
+
+pub count-bad : (f : List ℕ) → wholeBytes f ≡ false → Refused NotWhole ≡ frameAnswer f
+unfolding frameAnswer
+count-bad f w = simp w
+
+pub check-bad : (f : List ℕ) → wholeBytes f ≡ true → checked f ≡ false → Refused BadCheck ≡ frameAnswer f
+unfolding frameAnswer
+check-bad f w c = simp (w, c)
+
+pub check-good : (f : List ℕ) → wholeBytes f ≡ true → checked f ≡ true → Bytes (payloadLength f) ≡ frameAnswer f
+unfolding frameAnswer
+check-good f w c = simp (w, c)
+
+-- ---- between the flags
+
+pub stuffing-bad : (body : List ℕ) → legal 5 body ≡ false → Refused BadStuffing ≡ bodyAnswer body
+unfolding bodyAnswer
+stuffing-bad body e = simp e
+
+pub stuffing-good : (body : List ℕ) → legal 5 body ≡ true → frameAnswer (frameIn body) ≡ bodyAnswer body
+unfolding bodyAnswer frameAnswer
+stuffing-good body e = simp e
+
+-- ---- reading
+
+pub read-low : (xs : List ℕ) (m : ℕ) → length xs < 40 → Refused BadLength ≡ readAnswer xs m
+unfolding readAnswer
+read-low xs m h = simp (between-low 40 236 (length xs) h)
+
+pub read-high : (xs : List ℕ) (m : ℕ) → 236 < length xs → Refused BadLength ≡ readAnswer xs m
+unfolding readAnswer
+read-high xs m h = simp (between-high 40 236 (length xs) h)
+
+module _ (xs : List ℕ) (m : ℕ) (h : 40 ≤ length xs) (k : length xs ≤ 236) where
+  pub read-room : m < 21 → Refused NoRoom ≡ readAnswer xs m
+  unfolding readAnswer
+  read-room r = simp (between-yes 40 236 (length xs) h k, lt-leb 21 m r)
+
+  module _ (room : 21 ≤ m) where
+    pub read-bits : allBits xs ≡ false → Refused NotBits ≡ readAnswer xs m
+    unfolding readAnswer
+    read-bits e = simp (between-yes 40 236 (length xs) h k, le-leb 21 m room, e)
+
+    module _ (bits : allBits xs ≡ true) where
+      pub read-flag : flagged xs ≡ false → Refused NoFlag ≡ readAnswer xs m
+      unfolding readAnswer
+      read-flag e = simp (between-yes 40 236 (length xs) h k, le-leb 21 m room, bits, e)
+
+      pub read-body : flagged xs ≡ true → bodyAnswer (bodyOf xs) ≡ readAnswer xs m
+      unfolding readAnswer bodyAnswer
+      read-body e = simp (between-yes 40 236 (length xs) h k, le-leb 21 m room, bits, e)
+
+module _ (xs : List ℕ) {a : Bool} (ea : a ≡ same (take 8 xs) flag) where
+  pub flagged-no : a ≡ false → flagged xs ≡ false
+  unfolding flagged
+  flagged-no e = simp (← ea, e)
+
+  pub flagged-is : a ≡ true → {b : Bool} → b ≡ same (take (length xs - (length xs - 8)) (drop (length xs - 8) xs)) flag → flagged xs ≡ b
+  unfolding flagged
+  flagged-is e {b} eb =
+      let r = rw (rest-is (length xs - 8) xs) at eb in
+      simp (← ea, e, ← r)

@@ -1,0 +1,43 @@
+-- "Given exactly when", for each number of writing and reading, and what success says.
+-- Assumes nothing.
+use mathlib.Core.Path.{_≡_, refl, sym, ap, _∙_}
+use mathlib.Core.Bool.{Bool, true, false}
+use mathlib.Core.Logic.{_↔_}
+use mathlib.Core.List.{List, [], _∷_}
+use Prim.Native.Nat.{ℕ}
+use native.Mathlib.Omega.{arith}
+use lib.Dec.{leb}
+use lib.ListN.{length}
+use Rattle.laws.specs.Tests.{between, ladder}
+use Rattle.laws.proofs.Ladder.{exactly, passed}
+use Rattle.bits.specs.Bits.{allBits}
+use Rattle.packet.specs.Stuff.{legal}
+use Rattle.packet.specs.Packet.{packetOf, writtenNumber, receivedNumber, writeTests, writeAnswer, bodyOf, flagged, frameIn, wholeBytes, checked, frameTests, bodyTests, readTests, readAnswer, payloadLength}
+use Rattle.packet.specs.Promises.{WriteExactly, ReadExactly}
+use Rattle.packet.specs.declared.Written.the-variants.{Bits, Refused as NotWritten}
+use Rattle.packet.specs.declared.Received.the-variants.{Bytes, Refused}
+
+pub write-exactly : (p : List ℕ) (room : ℕ) → WriteExactly p room
+unfolding writeAnswer
+write-exactly p room =
+    let x = Bits (length (packetOf p)) in
+    record {
+      given-11 = exactly writtenNumber 11 0 (writeTests p room) x tt (λ e. omega arith);
+      given-12 = exactly writtenNumber 12 1 (writeTests p room) x tt (λ e. omega arith);
+      given-0 = passed writtenNumber 0 (writeTests p room) x tt refl;
+    }
+
+pub read-exactly : (xs : List ℕ) (room : ℕ) → ReadExactly xs room
+unfolding readAnswer
+read-exactly xs room =
+    let x = Bytes (payloadLength (frameIn (bodyOf xs))) in
+    record {
+      given-11 = exactly receivedNumber 11 0 (readTests xs room) x tt (λ e. omega arith);
+      given-12 = exactly receivedNumber 12 1 (readTests xs room) x tt (λ e. omega arith);
+      given-10 = exactly receivedNumber 10 2 (readTests xs room) x tt (λ e. omega arith);
+      given-13 = exactly receivedNumber 13 3 (readTests xs room) x tt (λ e. omega arith);
+      given-14 = exactly receivedNumber 14 4 (readTests xs room) x tt (λ e. omega arith);
+      given-15 = exactly receivedNumber 15 5 (readTests xs room) x tt (λ e. omega arith);
+      given-16 = exactly receivedNumber 16 6 (readTests xs room) x tt (λ e. omega arith);
+      given-0 = passed receivedNumber 0 (readTests xs room) x tt refl;
+    }

@@ -1,0 +1,11 @@
+pub mod Register
+pub mod Stuffing
+pub mod Quieting
+pub mod Sending
+pub mod Takings
+pub mod Framing
+pub mod Answers
+pub mod Telling
+pub mod Unpacking
+pub mod Exactly
+pub mod RoundTrip

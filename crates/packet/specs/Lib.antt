@@ -1,0 +1,5 @@
+pub mod Check
+pub mod Stuff
+pub mod Packet
+pub mod Taking
+pub mod Promises

@@ -1,0 +1,35 @@
+/* packet.h - link packets of the second program: the product is compared with it.
+ * It is written from the papers alone (01-scope, "Link packet" and "Numbers given back"; READINGS 1, 3, 4, 8). */
+#ifndef SECOND_PACKET_H
+#define SECOND_PACKET_H
+
+#include <stddef.h>
+#include <stdint.h>
+
+#define SECOND_PAYLOAD_MAX 21
+#define SECOND_PACKET_MIN 40
+#define SECOND_PACKET_MAX 236
+
+/* The numbers given back, by the table of the paper. */
+enum {
+    DONE = 0,
+    REFUSAL_NO_BIT = 10,
+    REFUSAL_LENGTH = 11,
+    REFUSAL_ROOM = 12,
+    REFUSAL_FLAG = 13,
+    REFUSAL_STUFFING = 14,
+    REFUSAL_BITS = 15,
+    REFUSAL_CHECK = 16
+};
+
+/* Both functions take what is given, what is lent and where the count goes, and return a number of the table.
+ * A refusal changes nothing, not even the count; on success the bytes past the answer stay. */
+uint32_t second_packet_write(const uint8_t *payload, size_t payload_len, uint8_t *bits, size_t bits_len,
+                             uint32_t *count);
+uint32_t second_packet_read(const uint8_t *bits, size_t bits_len, uint8_t *payload, size_t payload_len,
+                            uint32_t *count);
+
+/* The check sequence of a payload as a number whose low bit is sent first (the form of CRC-16/X-25). */
+uint16_t second_check(const uint8_t *payload, size_t payload_len);
+
+#endif
