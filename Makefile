@@ -22,7 +22,8 @@ WARN := -std=c11 -Wall -Wextra -Werror -pedantic
 SANITIZE := -O1 -g -fsanitize=address,undefined -fno-sanitize-recover=all
 
 BOARD := target/staticlib/libboard.a
-SECOND := second/packet.c second/cases.c second/vectors.c second/trial.c second/report.c
+SECOND := second/packet.c second/random.c second/unstuffed.c second/stream.c second/damage.c second/refusals.c \
+          second/faults.c second/cases.c second/vectors.c second/trial.c second/report.c
 HEADERS := $(wildcard include/*.h second/*.h bench/*.h)
 PROGRAMS := build/example build/test_packet build/test_packet_sanitized build/compare_packet
 

@@ -61,17 +61,4 @@ void cases_run(const struct case_sink *sink);
 /* The two groups of vectors. False where a file, or a line of it, cannot be read. */
 bool cases_run_vectors(const char *directory, const struct case_sink *sink);
 
-/* True where a well stuffed packet ends with a stuffed 0 and the closing flag. */
-bool ends_with_stuffed_zero(const uint8_t *bits, size_t count);
-
-/* Random numbers of our own, because those of the C library differ from one machine to the next. */
-struct random {
-    uint64_t state;
-};
-
-size_t random_below(struct random *random, size_t limit);
-
-/* A payload of 1 to 21 bytes, most of them rich in ones; returns its length. */
-size_t random_payload(struct random *random, uint8_t *payload);
-
 #endif

@@ -5,6 +5,7 @@
 #include "packet.h"
 #include "report.h"
 #include "trial.h"
+#include "unstuffed.h"
 #include "vectors.h"
 
 #include <stdio.h>

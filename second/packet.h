@@ -1,5 +1,5 @@
 /* packet.h - link packets of the second program: the product is compared with it.
- * It is written from the papers alone (01-scope, "Link packet" and "Numbers given back"; READINGS 1, 3, 4, 8). */
+ * It is written from the documents (document 01, "Link packet" and "Numbers given back"), not from the product. */
 #ifndef SECOND_PACKET_H
 #define SECOND_PACKET_H
 

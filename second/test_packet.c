@@ -1,6 +1,7 @@
 /* test_packet.c - the second program's own tests, without the product. Usage: test_packet VECTORS_DIR */
 #include "cases.h"
 #include "packet.h"
+#include "random.h"
 #include "report.h"
 #include "trial.h"
 #include "vectors.h"
@@ -128,7 +129,7 @@ static bool division_agrees(const uint8_t *payload, size_t payload_len)
     return check_as_sent == turn_check(second_check(payload, payload_len));
 }
 
-/* READINGS 8: a good payload with its check leaves 0x1D0F. */
+/* A good payload with its complemented check always leaves 0x1D0F. */
 static bool remainder_agrees(const uint8_t *payload, size_t payload_len)
 {
     uint8_t frame[SECOND_PAYLOAD_MAX + 2], bits[DIVISION_ROOM];
