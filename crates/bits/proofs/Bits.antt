@@ -4,7 +4,7 @@ use mathlib.Core.Path.{_≡_, refl, sym, ap, _∙_}
 use mathlib.Core.Bool.{Bool, true, false}
 use mathlib.Core.List.{List, [], _∷_, _++_}
 use Prim.Native.Nat.{ℕ, zero, suc, _+_, _-_, _*_, _/_, _%_, _^_, _≤_, _<_}
-use native.Mathlib.Nat.{zero-add, suc-add, pow-suc, mul-assoc}
+use native.Mathlib.Nat.{zero-add, suc-add, pow-suc, mul-assoc, mul-comm, div-div-eq-div-mul}
 use native.Mathlib.Omega.{arith}
 use borrow.Author.Tests.{lt-leb, le-leb, leb-true}
 use lib.Dec.{leb}
@@ -171,6 +171,23 @@ low-split h w =
     let n : 8 + h ≡ suc (suc (suc (suc (suc (suc (suc (suc h))))))) = omega arith in
     let e : w / 2 / 2 / 2 / 2 / 2 / 2 / 2 / 2 ≡ w / 256 = omega arith in
     rw (n, e)
+
+pub low-last : (n v : ℕ) → lowFirst (suc n) v ≡ lowFirst n v ++ (v / 2 ^ n % 2 ∷ [])
+unfolding lowFirst
+low-last zero v = let e : v / 2 ^ 0 ≡ v = omega arith in rw e
+low-last (suc n) v =
+    let e : v / 2 / 2 ^ n ≡ v / 2 ^ suc n = div-div-eq-div-mul v 2 (2 ^ n) ∙ ap (v /_) (mul-comm 2 (2 ^ n) ∙ sym (pow-suc 2 n)) in
+    ap (λ (t : List ℕ). v % 2 ∷ t) (low-last n (v / 2) ∙ ap (λ (m : ℕ). lowFirst n (v / 2) ++ (m % 2 ∷ [])) e)
+
+-- the low bits of a number are those of its low byte
+eight-low : (v : ℕ) → (v % 2 ≡ v % 256 % 2) × (v / 2 % 2 ≡ v % 256 / 2 % 2) × (v / 2 / 2 % 2 ≡ v % 256 / 2 / 2 % 2) × (v / 2 / 2 / 2 % 2 ≡ v % 256 / 2 / 2 / 2 % 2)
+    × (v / 2 / 2 / 2 / 2 % 2 ≡ v % 256 / 2 / 2 / 2 / 2 % 2) × (v / 2 / 2 / 2 / 2 / 2 % 2 ≡ v % 256 / 2 / 2 / 2 / 2 / 2 % 2)
+    × (v / 2 / 2 / 2 / 2 / 2 / 2 % 2 ≡ v % 256 / 2 / 2 / 2 / 2 / 2 / 2 % 2) × (v / 2 / 2 / 2 / 2 / 2 / 2 / 2 % 2 ≡ v % 256 / 2 / 2 / 2 / 2 / 2 / 2 / 2 % 2)
+eight-low v = (omega arith, omega arith, omega arith, omega arith, omega arith, omega arith, omega arith, omega arith)
+
+pub low-byte : (v : ℕ) → lowFirst 8 v ≡ lowFirst 8 (v % 256)
+unfolding lowFirst
+low-byte v = let e = eight-low v in cc
 
 -- ---- there and back
 

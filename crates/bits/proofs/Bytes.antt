@@ -42,6 +42,18 @@ pub turned-8 : (b : ℕ) → b < 256 → turned b < 256
 unfolding stays-byte
 turned-8 b h = ltb→lt (turned b) 256 (below stays-byte 256 all-stay-bytes b h)
 
+turns-back : ℕ → Bool
+unfolding same turned highFirst lowFirst
+turns-back b = same (lowFirst 8 (turned b)) (highFirst 8 b)
+
+all-turn-back : T (allBelow turns-back 256)
+unfolding turns-back
+all-turn-back = tt
+
+pub turned-back : (b : ℕ) → b < 256 → lowFirst 8 (turned b) ≡ highFirst 8 b
+unfolding turns-back
+turned-back b h = same→eq _ _ (is-true (below turns-back 256 all-turn-back b h))
+
 comes-back : ℕ → Bool
 unfolding highValue highFirst
 comes-back b = eqb (highValue 0 (highFirst 8 b)) b

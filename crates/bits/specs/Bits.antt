@@ -4,7 +4,7 @@ use Prim.Native.Nat.{ℕ, zero, suc, _+_, _*_, _/_, _%_, _^_}
 use mathlib.Core.Bool.{Bool, true, false}
 use mathlib.Core.List.{List, [], _∷_, _++_}
 use lib.Dec.{leb}
-use lib.ListN.{length, take, drop}
+use lib.ListN.{length, getD, take, drop}
 use Rattle.laws.specs.Tests.{both}
 
 -- the low n bits of v, the lowest first
@@ -50,3 +50,12 @@ bytesOf (suc n) bits = lowValue (take 8 bits) ∷ bytesOf n (drop 8 bits)
 -- the whole bytes that these bits make; bits that make none are left out
 unfoldable pub bytesIn : List ℕ → List ℕ
 bytesIn bits = bytesOf (length bits / 8) bits
+
+-- the eight bytes of a number, the lowest first
+unfoldable pub eightOf : ℕ → List ℕ
+eightOf z =
+    z % 256 ∷ z / 2 ^ 8 % 256 ∷ z / 2 ^ 16 % 256 ∷ z / 2 ^ 24 % 256 ∷ z / 2 ^ 32 % 256 ∷ z / 2 ^ 40 % 256 ∷ z / 2 ^ 48 % 256 ∷ z / 2 ^ 56 % 256 ∷ []
+
+-- the number of four bytes from place at on, the first one the lowest
+unfoldable pub fourOf : List ℕ → ℕ → ℕ
+fourOf l at = getD l at 0 + getD l (at + 1) 0 * 256 + getD l (at + 2) 0 * 65536 + getD l (at + 3) 0 * 16777216

@@ -4,22 +4,33 @@ pub mod turn;
 
 ghost use mathlib.Core.Path.{_≡_};
 ghost use Prim.Native.Nat.{_+_, _≤_, _<_};
-ghost use lib.ListN.{length};
+ghost use mathlib.Core.Bool.{true};
+ghost use lib.ListN.{length, take, drop};
 ghost use lib.Seq.{sets};
-ghost use Rattle.bits.specs.Bits.{highFirst, lowValue, allBits};
+ghost use Rattle.bits.specs.Bits.{lowFirst, lowValue, allBits, fourOf, eightOf};
 
-// The low n bits of v, the highest first, from place at on.
-pub fn put_bits(out: &mut [u8], at: usize, v: u8, n: usize)
-    requires { ⌜ (n ≤ 8) × (at + n ≤ length (now out)) ⌝ }
-    ensures { λ _. ⌜ now (out .exit) ≡ sets (now (out .entry)) at (highFirst n v) ⌝ }
+// A byte's bits as the eight bytes of a number, the lowest bit in the lowest byte. The factor brings bit j to place 8 j, and no two of
+// its products meet.
+pub fn spread(b: u8) -> u64
+    ensures { λ r. ⌜ eightOf r ≡ lowFirst 8 b ⌝ }
 {
-    let mut left = n;
-    let mut o = at;
-    while left > 0 {
-        left -= 1;
-        out[o] = (v >> left) % 2;
-        o += 1;
-    }
+    let low = ((b % 128) as u64) * 0x0002040810204081;
+    (low & 0x0101010101010101) + (((b / 128) as u64) << 56)
+}
+
+// The eight bytes of a number from place at on, the lowest first. A compiler makes one store of them.
+pub fn store_eight(out: &mut [u8], at: usize, z: u64)
+    requires { ⌜ at + 8 ≤ length (now out) ⌝ }
+    ensures { λ _. ⌜ now (out .exit) ≡ sets (now (out .entry)) at (eightOf z) ⌝ }
+{
+    out[at] = (z % 256) as u8;
+    out[at + 1] = ((z >> 8) % 256) as u8;
+    out[at + 2] = ((z >> 16) % 256) as u8;
+    out[at + 3] = ((z >> 24) % 256) as u8;
+    out[at + 4] = ((z >> 32) % 256) as u8;
+    out[at + 5] = ((z >> 40) % 256) as u8;
+    out[at + 6] = ((z >> 48) % 256) as u8;
+    out[at + 7] = ((z >> 56) % 256) as u8;
 }
 
 // Is every byte 0 or 1? Without a way out of the loop, so that it goes by many bytes at a time.
@@ -38,16 +49,24 @@ pub fn are_bits(bits: &[u8]) -> bool
     most <= 1
 }
 
-// The number whose bits these are, the lowest first.
-pub fn value(bits: &[u8]) -> u8
-    requires { ⌜ lowValue (now bits) < 256 ⌝ }
-    ensures { λ r. ⌜ r ≡ lowValue (now (bits .entry)) ⌝ }
+// Four bits as the bytes of a number, the first one the lowest. A compiler makes one load of them.
+fn four_at(bits: &[u8], at: usize) -> u32
+    requires { ⌜ (allBits (now bits) ≡ true) × (at + 4 ≤ length (now bits)) ⌝ }
+    ensures { λ r. ⌜ r ≡ fourOf (now (bits .entry)) at ⌝ }
 {
-    let mut acc: u8 = 0;
-    let mut j = bits.len();
-    while j > 0 {
-        j -= 1;
-        acc = acc * 2 + bits[j];
-    }
-    acc
+    let a = bits[at] as u32;
+    let b = bits[at + 1] as u32;
+    let c = bits[at + 2] as u32;
+    let d = bits[at + 3] as u32;
+    a + b * 256 + c * 65536 + d * 16777216
+}
+
+// The number that eight bits make, the lowest first. The factor brings each of them to its place in the fourth byte, and no two of its
+// products meet.
+pub fn byte_at(bits: &[u8], at: usize) -> u8
+    requires { ⌜ (allBits (now bits) ≡ true) × (at + 8 ≤ length (now bits)) ⌝ }
+    ensures { λ r. ⌜ r ≡ lowValue (take 8 (drop at (now (bits .entry)))) ⌝ }
+{
+    let both = four_at(bits, at) + four_at(bits, at + 4) * 16;
+    ((both as u64) * 0x01020408 / 16777216 % 256) as u8
 }

@@ -1,5 +1,6 @@
 // A byte turned: its eight bits reversed, by the table that document 01 asks for.
 ghost use mathlib.Core.Path.{_≡_};
+ghost use Rattle.laws.specs.Tables.{byteTable};
 ghost use Rattle.bits.specs.Bits.{turned};
 
 // Each entry is its index with the eight bits reversed.
@@ -262,8 +263,16 @@ const TURNED: [u8; 256] = [
     255,
 ];
 
-pub fn turn(b: u8) -> u8
+// The table, for a caller that turns many bytes: a constant is laid out anew by every function that names it.
+pub fn turns() -> [u8; 256]
+    ensures { λ r. ⌜ r ≡ byteTable turned ⌝ }
+{
+    TURNED
+}
+
+pub fn turn(turns: &[u8; 256], b: u8) -> u8
+    requires { ⌜ now turns ≡ byteTable turned ⌝ }
     ensures { λ r. ⌜ r ≡ turned b ⌝ }
 {
-    TURNED[b as usize]
+    turns[b as usize]
 }

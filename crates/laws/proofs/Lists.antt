@@ -9,8 +9,8 @@ use native.Mathlib.Numerals.{add-one}
 use native.Mathlib.Omega.{arith}
 use borrow.Author.Tests.{eq-eqb, ne-eqb, eqb-true}
 use lib.Dec.{eqb}
-use lib.ListN.{length, getD, take, drop, set, drop-of-length-le, length-drop}
-use lib.Seq.{drop-cons, sets, sets-eq, take-at, take-all}
+use lib.ListN.{length, getD, take, drop, set, drop-of-length-le, length-drop, take-append-drop}
+use lib.Seq.{drop-cons, set-set, set-comm, sets, sets-eq, take-at, take-all}
 use Rattle.laws.specs.Tests.{both}
 use Rattle.laws.specs.Lists.{over, same, AllBytes}
 use Rattle.laws.proofs.Tests.{both-left, both-right}
@@ -51,6 +51,35 @@ put-one out o b xs = rw (add-one o)
 pub sets-append : (xs ys out : List ℕ) (o : ℕ) → sets out o (xs ++ ys) ≡ sets (sets out o xs) (o + length xs) ys
 sets-append [] ys out o = rw (add-zero o)
 sets-append (x ∷ xs) ys out o = sets-append xs ys (set out o x) (suc o) ∙ ap (λ (k : ℕ). sets (sets (set out o x) (suc o) xs) k ys) (suc-add o (length xs) ∙ sym (add-suc o (length xs)))
+
+-- one store after a list of stores
+pub stored-last : (xs out : List ℕ) (o n y : ℕ) → length xs ≡ n → set (sets out o xs) (o + n) y ≡ sets out o (xs ++ (y ∷ []))
+stored-last xs out o n y e = sym (sets-append xs (y ∷ []) out o ∙ ap (λ (k : ℕ). set (sets out o xs) (o + k) y) e)
+
+-- a store before a list of stores may as well come first
+set-before : (zs out : List ℕ) (o j y : ℕ) → j < o → set (sets out o zs) j y ≡ sets (set out j y) o zs
+set-before [] out o j y h = refl
+set-before (z ∷ zs) out o j y h =
+    set-before zs (set out o z) (suc o) j y (omega arith) ∙ ap (λ (l : List ℕ). sets l (suc o) zs) (set-comm out o j z y (λ e. omega arith))
+
+-- what was stored is gone where as much is stored over it
+covered : (zs ys out : List ℕ) (o : ℕ) → length zs ≤ length ys → sets (sets out o zs) o ys ≡ sets out o ys
+covered [] ys out o h = refl
+covered (z ∷ zs) [] out o h = absurd (omega arith)
+covered (z ∷ zs) (y ∷ ys) out o h =
+    ap (λ (l : List ℕ). sets l (suc o) ys) (set-before zs (set out o z) (suc o) o y (omega arith) ∙ ap (λ (l : List ℕ). sets l (suc o) zs) (set-set out o z y))
+    ∙ covered zs ys (set out o y) (suc o) (omega arith)
+
+-- the first m of a list were wanted; what follows them covers the others
+pub stored-and-more : (zs xs ys out : List ℕ) (m o : ℕ) → take m zs ≡ xs → length xs ≡ m → length zs ≤ m + length ys → sets (sets out o zs) (o + m) ys ≡ sets out o (xs ++ ys)
+stored-and-more zs xs ys out m o e l h =
+    let rest = drop m zs in
+    let split : zs ≡ xs ++ rest = sym (take-append-drop m zs) ∙ ap (_++ rest) e in
+    let short : length rest ≤ length ys = omega (arith, length-drop m zs) in
+    let n : o + m ≡ o + length xs = omega arith in
+    ap (λ (t : List ℕ). sets (sets out o t) (o + m) ys) split
+    ∙ rw (sets-append xs rest out o, n) (covered rest ys (sets out o xs) (o + length xs) short)
+    ∙ sym (sets-append xs ys out o)
 
 -- a list that was stored from the start
 pub stored-over : (xs l : List ℕ) → length xs ≤ length l → sets l 0 xs ≡ over xs l

@@ -1,5 +1,5 @@
--- A table that a function fills: `tab f i n` is f i, f (i + 1), .. of n entries. Where a table of the code is that list by
--- computation, each of its entries is f of its place: `entry`. The comparison of the two lists is the computed test.
+-- Where a table of the code is, by computation, the list that a function fills, each of its entries is the function of its place. The
+-- comparison of the two lists is the computed test.
 -- Assumes nothing.
 use mathlib.Core.Path.{_≡_, refl, ap, _∙_, sym, subst}
 use mathlib.Core.List.{List, [], _∷_}
@@ -10,18 +10,19 @@ use Prim.Native.Nat.{ℕ, zero, suc, _+_, _<_}
 use native.Mathlib.Nat.{zero-add, add-zero, add-suc, suc-add, le-of-suc-le-suc, eq-or-lt-of-le, not-suc-le-zero}
 use lib.ListN.{getD}
 use Rattle.laws.specs.Tests.{both}
-
-abbrev pub tab : (ℕ → ℕ) → ℕ → ℕ → List ℕ
-tab f i zero = []
-tab f i (suc n) = f i ∷ tab f (suc i) n
+use Rattle.laws.specs.Tables.{tab, byteTable}
 
 from : (f : ℕ → ℕ) (n i k : ℕ) → k < n → getD (tab f i n) k 0 ≡ f (i + k)
 from f zero i k h = absurd (not-suc-le-zero h)
 from f (suc n) i zero h = ap f (sym (add-zero i))
 from f (suc n) i (suc k) h = from f n (suc i) k (le-of-suc-le-suc h) ∙ ap f (suc-add i k ∙ sym (add-suc i k))
 
-pub entry : (f : ℕ → ℕ) (n k : ℕ) → k < n → getD (tab f 0 n) k 0 ≡ f k
+entry : (f : ℕ → ℕ) (n k : ℕ) → k < n → getD (tab f 0 n) k 0 ≡ f k
 entry f n k h = from f n 0 k h ∙ ap f (zero-add k)
+
+pub byte-entry : (f : ℕ → ℕ) {table : List ℕ} (k : ℕ) → table ≡ byteTable f → k < 256 → getD table k 0 ≡ f k
+unfolding byteTable
+byte-entry f k e h = ap (λ (t : List ℕ). getD t k 0) e ∙ entry f 256 k h
 
 -- a test at each number below n
 abbrev pub allBelow : (ℕ → Bool) → ℕ → Bool

@@ -1,6 +1,6 @@
 -- Tests by what led to them, and what a test says.
 -- Assumes nothing.
-use mathlib.Core.Path.{_≡_, refl, sym, ap, _∙_}
+use mathlib.Core.Path.{_≡_, refl, sym, ap, _∙_, subst}
 use mathlib.Core.Bool.{Bool, true, false, not}
 use Prim.Native.Nat.{ℕ, _≤_, _<_}
 use borrow.Author.Tests.{le-leb, lt-leb, leb-true}
@@ -42,3 +42,7 @@ between-high a b n h = ap (both (leb a n)) (lt-leb n b h) ∙ both-no (leb a n)
 
 pub between-is : (a b n : ℕ) → between a b n ≡ true → (a ≤ n) × (n ≤ b)
 between-is a b n e = (leb-true a n (both-left (leb a n) (leb n b) e), leb-true n b (both-right (leb a n) (leb n b) e))
+
+pub of-true : {b : Bool} → b ≡ true → T b
+of-true {b = true} e = tt
+of-true {b = false} e = subst T (sym e) tt

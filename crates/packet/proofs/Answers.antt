@@ -11,11 +11,10 @@ use lib.ListN.{length, take, drop}
 use Rattle.laws.specs.Tests.{both, pick, between, ladder}
 use Rattle.laws.specs.Lists.{same}
 use Rattle.laws.proofs.Tests.{between-yes, between-low, between-high, both-no}
-use Rattle.laws.proofs.Lists.{rest-is}
 use Rattle.numbers.specs.declared.Refusal.the-variants.{NotBits, BadLength, NoRoom, NoFlag, BadStuffing, NotWhole, BadCheck}
 use Rattle.bits.specs.Bits.{allBits}
-use Rattle.packet.specs.Stuff.{legal}
-use Rattle.packet.specs.Packet.{flag, packetOf, writeTests, writeAnswer, bodyOf, flagged, frameIn, wholeBytes, checked, frameTests, frameAnswer, bodyTests, bodyAnswer, readTests, readAnswer, payloadLength}
+use Rattle.packet.specs.Stuff.{flag, legal}
+use Rattle.packet.specs.Packet.{packetOf, writeTests, writeAnswer, bodyOf, flagged, frameIn, wholeBytes, checked, frameTests, frameAnswer, bodyTests, bodyAnswer, readTests, readAnswer, payloadLength}
 use Rattle.packet.specs.declared.Written.{Written}
 use Rattle.packet.specs.declared.Written.the-variants.{Bits, Refused as NotWritten}
 use Rattle.packet.specs.declared.Received.{Received}
@@ -108,13 +107,10 @@ module _ (xs : List ℕ) (m : ℕ) (h : 40 ≤ length xs) (k : length xs ≤ 236
       unfolding readAnswer bodyAnswer
       read-body e = simp (between-yes 40 236 (length xs) h k, le-leb 21 m room, bits, e)
 
-module _ (xs : List ℕ) {a : Bool} (ea : a ≡ same (take 8 xs) flag) where
-  pub flagged-no : a ≡ false → flagged xs ≡ false
-  unfolding flagged
-  flagged-no e = simp (← ea, e)
+pub flagged-no : (xs : List ℕ) → same (take 8 xs) flag ≡ false → flagged xs ≡ false
+unfolding flagged
+flagged-no xs e = simp e
 
-  pub flagged-is : a ≡ true → {b : Bool} → b ≡ same (take (length xs - (length xs - 8)) (drop (length xs - 8) xs)) flag → flagged xs ≡ b
-  unfolding flagged
-  flagged-is e {b} eb =
-      let r = rw (rest-is (length xs - 8) xs) at eb in
-      simp (← ea, e, ← r)
+pub flagged-is : (xs : List ℕ) {b : Bool} → same (take 8 xs) flag ≡ true → same (drop (length xs - 8) xs) flag ≡ b → flagged xs ≡ b
+unfolding flagged
+flagged-is xs {b} e f = simp (e, f)

@@ -1,11 +1,12 @@
 pub mod Register
 pub mod Stuffing
-pub mod Quieting
 pub mod Sending
+pub mod Building
+pub mod Unstuffing
 pub mod Takings
-pub mod Framing
+pub mod Taken
 pub mod Answers
+pub mod Exactly
 pub mod Telling
 pub mod Unpacking
-pub mod Exactly
 pub mod RoundTrip

@@ -15,7 +15,7 @@ use Rattle.laws.proofs.Table.{allBelow, below}
 use Rattle.laws.proofs.Xor.{xor, xor-16, xor-8, comm, zero-r, self, assoc, swap, double, parts, block}
 use Rattle.bits.specs.Bits.{allBits, highFirst, lowFirst, turned, sentBits}
 use Rattle.bits.proofs.Bits.{bit-head, bit-tail, high-bits, length-highFirst}
-use Rattle.bits.proofs.Bytes.{sent-byte, turned-8, sentBits-more}
+use Rattle.bits.proofs.Bytes.{sent-byte, sentBits-more}
 use Rattle.packet.specs.Check.{stepped, through, entryOf}
 
 top : (a c : ℕ) → xor a c / 32768 ≡ xor (a / 32768) (c / 32768)
@@ -179,12 +179,12 @@ byte-in r t hr ht =
     ∙ ap (xor (l * 256)) (entry-xor h t hh ht)
 
 -- as the code computes it
-pub byte-step : (r b : ℕ) → r < 65536 → b < 256 → bitXor (r * 2 ^ 8 % 2 ^ 16) (entryOf (bitXor (r / 2 ^ 8) (turned b))) ≡ through r (lowFirst 8 b)
+pub byte-step : (r t : ℕ) → r < 65536 → t < 256 → bitXor (r * 2 ^ 8 % 2 ^ 16) (entryOf (bitXor (r / 2 ^ 8) t)) ≡ through r (highFirst 8 t)
 unfolding xor
-byte-step r b hr hb =
+byte-step r t hr ht =
     let m : r * 256 % 65536 ≡ r % 256 * 256 = omega arith in
-    ap (λ (x : ℕ). bitXor x (entryOf (bitXor (r / 256) (turned b)))) m
-    ∙ sym (byte-in r (turned b) hr (turned-8 b hb)) ∙ ap (through r) (sent-byte b hb)
+    ap (λ (x : ℕ). bitXor x (entryOf (bitXor (r / 256) t))) m ∙ sym (byte-in r t hr ht)
 
-pub byte-turn : (r r′ b : ℕ) (bs : List ℕ) → r′ ≡ through r (lowFirst 8 b) → through r (sentBits (b ∷ bs)) ≡ through r′ (sentBits bs)
-byte-turn r r′ b bs e = ap (through r) (sentBits-more b bs) ∙ through-append (lowFirst 8 b) (sentBits bs) r ∙ ap (λ (x : ℕ). through x (sentBits bs)) (sym e)
+pub byte-turn : (r r′ b : ℕ) (bs : List ℕ) → b < 256 → r′ ≡ through r (highFirst 8 (turned b)) → through r (sentBits (b ∷ bs)) ≡ through r′ (sentBits bs)
+byte-turn r r′ b bs h e =
+    ap (through r) (sentBits-more b bs) ∙ through-append (lowFirst 8 b) (sentBits bs) r ∙ ap (λ (x : ℕ). through x (sentBits bs)) (sym (e ∙ ap (through r) (sent-byte b h)))

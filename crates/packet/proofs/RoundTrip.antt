@@ -18,13 +18,13 @@ use Rattle.bits.specs.Bits.{allBits, highFirst, sentBits, bytesOf}
 use Rattle.bits.proofs.Bits.{allBits-more, allBits-append, allBits-take, allBits-drop, bit-head, bit-tail, high-bits}
 use Rattle.bits.proofs.Bytes.{sent-bits, length-sent, length-bytesOf, bytes-back, sent-back}
 use Rattle.packet.specs.Check.{checkOf}
-use Rattle.packet.specs.Stuff.{stuffed, leftAfter, legal, unstuffed}
-use Rattle.packet.specs.Packet.{flag, frameOf, packetOf, writtenNumber, writeAnswer, writeOut, Writes, receivedNumber, bodyOf, flagged, frameIn, wholeBytes, checked, payloadLength, frameAnswer, bodyAnswer, readAnswer, readOut, Reads}
+use Rattle.packet.specs.Stuff.{flag, stuffed, leftAfter, legal, unstuffed}
+use Rattle.packet.specs.Packet.{frameOf, packetOf, writtenNumber, writeAnswer, writeOut, Writes, receivedNumber, bodyOf, flagged, frameIn, wholeBytes, checked, payloadLength, frameAnswer, bodyAnswer, readAnswer, readOut, Reads}
 use Rattle.packet.specs.Promises.{ReadAfterWrite, WriteAfterRead, WriteOnce, ReadOnce}
 use Rattle.packet.specs.declared.Written.the-variants.{Bits}
 use Rattle.packet.specs.declared.Received.the-variants.{Bytes}
-use Rattle.packet.proofs.Stuffing.{legal-stuffed, unstuffed-stuffed, stuffed-unstuffed, unstuffed-bits}
-use Rattle.packet.proofs.Framing.{length-flag, length-frame, length-packet, packet-short}
+use Rattle.packet.proofs.Stuffing.{stuffed-least, legal-stuffed, unstuffed-stuffed, stuffed-unstuffed, unstuffed-bits}
+use Rattle.packet.proofs.Building.{length-flag, length-frame, length-packet, packet-short}
 use Rattle.packet.proofs.Answers.{write-good, whole, check-good, stuffing-good, read-body}
 use Rattle.packet.proofs.Exactly.{write-exactly, read-exactly}
 
@@ -48,13 +48,6 @@ packet-bits p =
     (allBits-append flag (stuffed 4 (frameOf p)) flag-bits-all
     (stuffed-bits 4 (frameOf p) (allBits-append (sentBits p) (highFirst 16 (checkOf (sentBits p))) (sent-bits p) (high-bits 16 _))))
     flag-bits-all
-
-stuffed-least : (k : ℕ) (xs : List ℕ) → length xs ≤ length (stuffed k xs)
-unfolding stuffed
-stuffed-least k [] = omega arith
-stuffed-least k (zero ∷ bs) = omega (arith, stuffed-least 4 bs)
-stuffed-least zero (suc b ∷ bs) = omega (arith, stuffed-least 4 bs)
-stuffed-least (suc k) (suc b ∷ bs) = omega (arith, stuffed-least k bs)
 
 -- ---- parts of what is written
 

@@ -72,6 +72,13 @@ stuffed-bound k (zero ∷ bs) h = omega (arith, stuffed-bound 4 bs (omega arith)
 stuffed-bound zero (suc b ∷ bs) h = omega (arith, stuffed-bound 4 bs (omega arith))
 stuffed-bound (suc k) (suc b ∷ bs) h = omega (arith, stuffed-bound k bs (omega arith))
 
+pub stuffed-least : (k : ℕ) (xs : List ℕ) → length xs ≤ length (stuffed k xs)
+unfolding stuffed
+stuffed-least k [] = omega arith
+stuffed-least k (zero ∷ bs) = omega (arith, stuffed-least 4 bs)
+stuffed-least zero (suc b ∷ bs) = omega (arith, stuffed-least 4 bs)
+stuffed-least (suc k) (suc b ∷ bs) = omega (arith, stuffed-least k bs)
+
 pub unstuffed-bound : (k : ℕ) (xs : List ℕ) → length (unstuffed k xs) ≤ length xs
 unfolding unstuffed
 unstuffed-bound zero [] = omega arith

@@ -12,10 +12,11 @@ use lib.Seq.{take-at, drop-at, take-all, length-take-le}
 use Rattle.laws.specs.Lists.{over, same}
 use Rattle.laws.proofs.Lists.{next, done, all-bytes, take-bytes, same→eq, same-refl}
 use Rattle.bits.specs.Bits.{lowFirst, highFirst, lowValue, turned, allBits, sentBits, bytesOf}
-use Rattle.bits.proofs.Bits.{bits-back, high-split}
+use Rattle.bits.proofs.Bits.{allBits-take, allBits-drop, bits-back, high-split}
 use Rattle.bits.proofs.Bytes.{sent-byte, turned-8, high-same, sentBits-more, sentBits-end, sent-append, length-sent, bytes-back}
-use Rattle.packet.specs.Check.{checkOf}
-use Rattle.packet.specs.Packet.{flag, wholeBytes, checked, payloadLength}
+use Rattle.packet.specs.Check.{through, checkOf}
+use Rattle.packet.specs.Stuff.{flag}
+use Rattle.packet.specs.Packet.{wholeBytes, checked, payloadLength}
 use Rattle.packet.proofs.Answers.{whole}
 
 -- two lists are the same exactly when two numbers are, if each says the other
@@ -40,6 +41,17 @@ flag-told eight {v} l bits e =
     same-is-eqb eight flag v 126
     (λ h. sym (bits-back 8 eight l bits) ∙ ap (lowFirst 8) (sym e ∙ h) ∙ low-flag)
     (λ h. e ∙ ap lowValue h ∙ flag-value)
+
+-- the flags of a packet, as the code looks at them
+module _ (xs : List ℕ) {v : ℕ} (bits : allBits xs ≡ true) (long : 40 ≤ length xs) where
+  pub first-flag : v ≡ lowValue (take 8 xs) → eqb v 126 ≡ same (take 8 xs) flag
+  first-flag e = flag-told (take 8 xs) (length-take-le 8 xs (omega arith)) (allBits-take 8 xs bits) e
+
+  pub last-flag : v ≡ lowValue (take 8 (drop (length xs - 8) xs)) → eqb v 126 ≡ same (drop (length xs - 8) xs) flag
+  last-flag e =
+      let d = drop (length xs - 8) xs in
+      let n : length d ≡ 8 = length-drop (length xs - 8) xs ∙ omega arith in
+      flag-told d n (allBits-drop (length xs - 8) xs bits) (e ∙ ap lowValue (take-all 8 d (omega arith)))
 
 -- ---- whole bytes, payload and check
 

@@ -1,5 +1,6 @@
 pub mod Check
 pub mod Stuff
-pub mod Packet
+pub mod Sending
 pub mod Taking
+pub mod Packet
 pub mod Promises

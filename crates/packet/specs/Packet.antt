@@ -12,7 +12,7 @@ use Rattle.numbers.specs.declared.Refusal.the-variants.{NotBits, BadLength, NoR
 use Rattle.numbers.specs.Numbers.{numberOf}
 use Rattle.bits.specs.Bits.{allBits, highFirst, sentBits, bytesOf}
 use Rattle.packet.specs.Check.{checkOf}
-use Rattle.packet.specs.Stuff.{stuffed, legal, unstuffed}
+use Rattle.packet.specs.Stuff.{flag, stuffed, legal, unstuffed}
 use Rattle.packet.specs.declared.Written.{Written}
 use Rattle.packet.specs.declared.Written.the-variants.{Bits, Refused as NotWritten}
 use Rattle.packet.specs.declared.Received.{Received}
@@ -29,9 +29,6 @@ receivedNumber (Bytes n) = 0
 receivedNumber (Refused r) = numberOf r
 
 -- ---- writing
-
-unfoldable pub flag : List ℕ
-flag = 0 ∷ 1 ∷ 1 ∷ 1 ∷ 1 ∷ 1 ∷ 1 ∷ 0 ∷ []
 
 -- payload and check as sent, not stuffed
 unfoldable pub frameOf : List ℕ → List ℕ

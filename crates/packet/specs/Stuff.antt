@@ -1,12 +1,14 @@
 -- Stuffing: a 0 is put in after every five ones in a row, also where the fifth is the last bit.
 -- Assumes nothing.
-use Prim.Native.Nat.{ℕ, zero, suc, _+_, _*_}
+use Prim.Native.Nat.{ℕ, zero, suc, _+_, _-_, _*_, _/_, _^_}
 use mathlib.Core.Bool.{Bool, true, false}
 use mathlib.Core.List.{List, [], _∷_}
-use lib.Dec.{eqb}
-use lib.ListN.{length}
-use Rattle.laws.specs.Tests.{pick}
-use Rattle.bits.specs.Bits.{highFirst}
+use lib.Bits.{bitAnd}
+use Rattle.bits.specs.Bits.{lowFirst}
+
+-- 01111110, which no stuffed bits hold
+unfoldable pub flag : List ℕ
+flag = 0 ∷ 1 ∷ 1 ∷ 1 ∷ 1 ∷ 1 ∷ 1 ∷ 0 ∷ []
 
 -- k: how many ones may come before the one that a 0 follows, 4 at the start
 unfoldable pub stuffed : ℕ → List ℕ → List ℕ
@@ -37,15 +39,17 @@ unstuffed zero (x ∷ xs) = unstuffed 5 xs
 unstuffed (suc k) (zero ∷ xs) = 0 ∷ unstuffed 5 xs
 unstuffed (suc k) (suc x ∷ xs) = suc x ∷ unstuffed k xs
 
--- ---- the table by which the code goes: bytes that need no 0
+-- ---- a byte at once, its low bit first: what the code goes by
 
--- 1 where sending this byte, its high bit first, puts a 0 in
-unfoldable pub loud : ℕ → ℕ → ℕ
-unfolding stuffed highFirst
-loud k t = pick (eqb (length (stuffed k (highFirst 8 t))) 8) 0 1
+-- bit j is 1 where bits j-4 to j are ones, if those before the byte are
+unfoldable pub fifths : ℕ → ℕ
+fifths b = bitAnd (bitAnd (bitAnd (b * 16 + 15) ((b * 16 + 15) / 2)) (bitAnd (b * 16 + 15) ((b * 16 + 15) / 2) / 4)) b
 
--- from how many ones on that may come before the one that a 0 follows this byte needs no 0 (5: never); then, times 8, how many may
--- come after it
-unfoldable pub quietOf : ℕ → ℕ
-unfolding loud leftAfter highFirst
-quietOf t = loud 0 t + loud 1 t + loud 2 t + loud 3 t + loud 4 t + 8 * leftAfter 4 (highFirst 8 t)
+-- which of them count, where so many ones may come before the one that a 0 follows: all but the lowest k
+abbrev pub maskOf : ℕ → ℕ
+maskOf k = 256 - 2 ^ k
+
+-- for each byte, its fifths and, times 256, the mask after it, for a byte that is not all ones
+unfoldable pub rowOf : ℕ → ℕ
+unfolding fifths leftAfter lowFirst
+rowOf b = fifths b + 256 * maskOf (leftAfter 4 (lowFirst 8 b))

@@ -1,65 +1,91 @@
--- What taking bits one after the other keeps true, whatever the bits: the words for the contracts in src/unstuff.rt.
+-- What taking bits, eight at a time, keeps true: the words for the contracts in src/unstuff.rt.
 -- Assumes nothing.
 use Prim.Native.Nat.{ℕ, zero, suc, _+_, _-_, _*_, _/_, _%_, _^_, _≤_, _<_}
 use mathlib.Core.Path.{_≡_}
-use mathlib.Core.Bool.{Bool, true, false}
-use mathlib.Core.List.{List, _++_}
-use lib.Dec.{eqb, ltb}
-use lib.ListN.{length}
+use mathlib.Core.Bool.{Bool, true, false, not}
+use mathlib.Core.List.{List, [], _∷_, _++_}
+use lib.Bits.{bitAnd}
+use lib.Dec.{eqb}
+use lib.ListN.{length, take, drop}
 use lib.Seq.{sets}
 use Rattle.laws.specs.Tests.{pick}
-use Rattle.bits.specs.Bits.{lowFirst, bytesIn}
+use Rattle.bits.specs.Bits.{lowFirst, sentBits, bytesIn}
+use Rattle.packet.specs.Check.{through}
 use Rattle.packet.specs.Stuff.{legal, unstuffed}
+use Rattle.packet.specs.Sending.{aboveOf}
 use Rattle.packet.specs.declared.unstuff.Taking.{Taking}
 
--- the numbers are in their ranges
-pub record Sound (s : Taking) : Type 0 where
-  pub ones : s .left ≤ 5
+unfoldable pub zeros : ℕ → List ℕ
+zeros zero = []
+zeros (suc n) = 0 ∷ zeros n
+
+-- k: how many ones may come before a bit that was put in. How many may come after these bits
+unfoldable pub leftIn : ℕ → List ℕ → ℕ
+leftIn k [] = k
+leftIn zero (x ∷ xs) = leftIn 5 xs
+leftIn (suc k) (zero ∷ xs) = leftIn 5 xs
+leftIn (suc k) (suc x ∷ xs) = leftIn k xs
+
+-- no bit that was put in is 1
+unfoldable pub clean : ℕ → List ℕ → Bool
+clean k [] = true
+clean zero (zero ∷ xs) = clean 5 xs
+clean zero (suc x ∷ xs) = false
+clean (suc k) (zero ∷ xs) = clean 5 xs
+clean (suc k) (suc x ∷ xs) = clean k xs
+
+-- the same by the last five bits, the lowest first
+unfoldable pub leftBy : ℕ → ℕ
+leftBy tail = leftIn 5 (lowFirst 5 tail)
+
+-- of eight bits after these five, those that have five ones before them
+unfoldable pub putIn : ℕ → ℕ → ℕ
+putIn tail v =
+    bitAnd (bitAnd (bitAnd (v * 32 + tail) ((v * 32 + tail) / 2)) (bitAnd (v * 32 + tail) ((v * 32 + tail) / 2) / 4)) ((v * 32 + tail) / 16) % 256
+
+-- where only one was put in, it is 1
+abbrev pub More : ℕ → ℕ → Type 0
+More tail v = bitAnd (putIn tail v) (aboveOf (putIn tail v)) ≡ 0 → bitAnd (putIn tail v) v ≡ 0 → ⊥
+
+-- eight bits with those left out that were put in, after these five: the others, how many are gone, and whether one of them was 1
+pub record Unstuffs (tail v bits gone : ℕ) (spoilt : Bool) : Type 0 where
+  pub few : gone ≤ 2
+  pub told : spoilt ≡ not (clean (leftBy tail) (lowFirst 8 v))
+  pub are : spoilt ≡ false → lowFirst (8 - gone) bits ≡ unstuffed (leftBy tail) (lowFirst 8 v)
+  pub small : spoilt ≡ false → bits < 2 ^ (8 - gone)
+  pub left : spoilt ≡ false → leftBy (v / 8) ≡ leftIn (leftBy tail) (lowFirst 8 v)
+
+-- the numbers are in their ranges, and the register has gone through the bytes but for the first one and the last two
+pub record Sound (s : Taking) (raw : List ℕ) : Type 0 where
+  pub five : s .tail < 32
   pub under : s .have < 8
   pub small : s .part < 2 ^ s .have
-
--- how many ones may come after a bit that was sent
-unfoldable pub nextLeft : ℕ → ℕ → ℕ
-nextLeft zero k = 5
-nextLeft (suc b) k = k - 1
-
--- after a bit that was put in: it is left out, and must be 0
-unfoldable pub skipped : ℕ → Taking → Taking
-skipped b s = record { left = 5; spoilt = pick (eqb b 0) (s .spoilt) true; part = s .part; have = s .have; count = s .count }
-
--- how many bits have been kept
-abbrev pub kept : Taking → ℕ
-kept s = 8 * s .count + s .have
+  pub check : s .reg ≡ through 0xffff (sentBits (take (s .count - 3) (drop 1 raw)))
 
 -- the bits of the frame that are not stored yet, where `rest` is still to be taken
 unfoldable pub pending : Taking → List ℕ → List ℕ
-pending s rest = lowFirst (s .have) (s .part) ++ unstuffed (s .left) rest
+pending s rest = lowFirst (s .have) (s .part) ++ unstuffed (leftBy (s .tail)) rest
 
 unfoldable pub lawful : Taking → List ℕ → Bool
-lawful s rest = pick (s .spoilt) false (legal (s .left) rest)
+lawful s rest = pick (s .spoilt) false (legal (leftBy (s .tail)) rest)
 
 -- what is stored, and what is pending, still makes the frame, which goes to the start of `empty`; and what is to come still decides
 -- whether all of it is legal
 pub record Going (frame : List ℕ) (verdict : Bool) (empty : List ℕ) (s : Taking) (raw rest : List ℕ) : Type 0 where
-  pub goes : sets raw (s .count) (bytesIn (pending s rest)) ≡ sets empty 0 (bytesIn frame)
-  pub size : 8 * s .count + length (pending s rest) ≡ length frame
-  pub lawful : lawful s rest ≡ verdict
+  pub law : lawful s rest ≡ verdict
+  pub size : s .spoilt ≡ false → 8 * s .count + length (pending s rest) ≡ length frame
+  pub goes : s .spoilt ≡ false → sets raw (s .count) (bytesIn (pending s rest)) ≡ sets empty 0 (bytesIn frame)
 
 -- taking these bits leads from one state to another
 pub record Took (bits : List ℕ) (s : Taking) (raw : List ℕ) (s′ : Taking) (raw′ : List ℕ) : Type 0 where
-  pub sound : Sound s′
-  pub more : kept s′ ≤ kept s + length bits
+  pub sound : Sound s′ raw′
+  pub more : 8 * s′ .count + s′ .have ≤ 8 * s .count + s .have + length bits
   pub on : (frame : List ℕ) (verdict : Bool) (empty rest : List ℕ) → Going frame verdict empty s raw (bits ++ rest) → Going frame verdict empty s′ raw′ rest
 
--- eight bits, the lowest first, of which none was put in, and how many ones may come after them
-pub record Quiet (v left : ℕ) (s : Taking) : Type 0 where
-  pub ones : left ≤ 5
-  pub bits : (rest : List ℕ) → unstuffed (s .left) (lowFirst 8 v ++ rest) ≡ lowFirst 8 v ++ unstuffed left rest
-  pub lawful : (rest : List ℕ) → legal (s .left) (lowFirst 8 v ++ rest) ≡ legal left rest
-
--- all bits of a body taken: the frame's whole bytes are stored, and it is told how many bits are over and whether all was legal
+-- all bits of a body taken: it is told whether all was legal, how many bytes and bits the frame has, and after a first byte 0 its whole
+-- bytes are stored
 pub record Unstuffed (body empty : List ℕ) (s : Taking) (raw : List ℕ) : Type 0 where
-  pub count : s .count ≡ length (unstuffed 5 body) / 8
-  pub have : s .have ≡ length (unstuffed 5 body) % 8
-  pub stored : raw ≡ sets empty 0 (bytesIn (unstuffed 5 body))
-  pub lawful : pick (s .spoilt) false (ltb 0 (s .left)) ≡ legal 5 body
+  pub sound : Sound s raw
+  pub law : pick (s .spoilt) false (not (eqb (s .tail) 31)) ≡ legal 5 body
+  pub size : s .spoilt ≡ false → 8 * s .count + s .have ≡ 8 + length (unstuffed 5 body)
+  pub stored : s .spoilt ≡ false → raw ≡ sets empty 0 (0 ∷ bytesIn (unstuffed 5 body))

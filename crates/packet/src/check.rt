@@ -1,8 +1,8 @@
-// The check sequence, a byte at a time. Promise: it is the one that specs/Check.antt defines bit by bit.
+// The check sequence, a byte at a time. Promise: the register goes as specs/Check.antt defines it bit by bit.
 ghost use mathlib.Core.Path.{_≡_};
-ghost use Rattle.bits.specs.Bits.{lowFirst, sentBits};
-ghost use Rattle.packet.specs.Check.{through, checkOf, entryOf};
-use bits::turn::turn;
+ghost use Rattle.laws.specs.Tables.{byteTable};
+ghost use Rattle.bits.specs.Bits.{highFirst};
+ghost use Rattle.packet.specs.Check.{through, entryOf};
 
 // What each byte makes of the register 0.
 const ENTRIES: [u16; 256] = [
@@ -264,29 +264,18 @@ const ENTRIES: [u16; 256] = [
     7920,
 ];
 
-fn entry(x: u8) -> u16
-    ensures { λ r. ⌜ r ≡ entryOf x ⌝ }
+// The table, for a caller that takes many bytes.
+pub fn entries() -> [u16; 256]
+    ensures { λ r. ⌜ r ≡ byteTable entryOf ⌝ }
 {
-    ENTRIES[x as usize]
+    ENTRIES
 }
 
-// A byte of the payload into the register.
-fn step_byte(reg: u16, b: u8) -> u16
-    ensures { λ r. ⌜ r ≡ through reg (lowFirst 8 b) ⌝ }
+// A byte, turned, into the register.
+pub fn step(entries: &[u16; 256], reg: u16, t: u8) -> u16
+    requires { ⌜ now entries ≡ byteTable entryOf ⌝ }
+    ensures { λ r. ⌜ r ≡ through reg (highFirst 8 t) ⌝ }
 {
-    let h = (reg >> 8) as u8;
-    (reg << 8) ^ entry(h ^ turn(b))
-}
-
-// The check sequence of the bits of a payload as sent, a byte at a time.
-pub fn check_bytes(payload: &[u8]) -> u16
-    ensures { λ r. ⌜ r ≡ checkOf (sentBits (now (payload .entry))) ⌝ }
-{
-    let mut reg: u16 = 0xffff;
-    let mut i = 0;
-    while i < payload.len() {
-        reg = step_byte(reg, payload[i]);
-        i += 1;
-    }
-    0xffff - reg
+    let x = (reg >> 8) as u8 ^ t;
+    (reg << 8) ^ entries[x as usize]
 }

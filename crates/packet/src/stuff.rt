@@ -1,341 +1,381 @@
-// Stuffing, a byte at a time where the byte needs no 0. Promise: what is sent is `stuffed` of the bits, as specs/Stuff.antt defines it
-// bit by bit.
+// Stuffing, a byte at a time. Promise: what is sent is `stuffed` of the bits, as specs/Stuff.antt defines it bit by bit.
 ghost use mathlib.Core.Path.{_≡_};
-ghost use Prim.Native.Nat.{_+_, _≤_};
+ghost use Prim.Native.Nat.{_+_, _≤_, _<_};
 ghost use lib.ListN.{length};
 ghost use lib.Seq.{sets};
-ghost use Rattle.bits.specs.Bits.{highFirst, sentBits};
-ghost use Rattle.packet.specs.Stuff.{stuffed, leftAfter, quietOf};
-use bits::put_bits;
-use bits::turn::turn;
+ghost use Rattle.laws.specs.Tables.{byteTable};
+ghost use Rattle.bits.specs.Bits.{lowFirst};
+ghost use Rattle.packet.specs.Stuff.{rowOf};
+ghost use Rattle.packet.specs.Sending.{aboveOf, afterOnes, Valid, Twice, Stuffs, Leads};
+use bits::spread;
+use bits::store_eight;
 
-// Where sending stands: the next place, and how many ones may come before the one that a 0 follows.
+// Where sending stands: the next place, and which bits of the next byte would, as ones, be a fifth one in a row.
 pub struct Sending {
     pub at: usize,
-    pub left: u8,
+    pub mask: u16,
 }
 
-// For each byte, its high bit first: from how many such ones on it needs no 0, and, times 8, how many may come after it.
-const QUIET: [u8; 256] = [
-    32,
-    24,
-    32,
-    16,
-    32,
-    24,
-    32,
-    8,
-    32,
-    24,
-    32,
-    16,
-    32,
-    24,
-    32,
-    0,
-    32,
-    24,
-    32,
-    16,
-    32,
-    24,
-    32,
-    8,
-    32,
-    24,
-    32,
-    16,
-    32,
-    24,
-    32,
-    37,
-    32,
-    24,
-    32,
-    16,
-    32,
-    24,
-    32,
-    8,
-    32,
-    24,
-    32,
-    16,
-    32,
-    24,
-    32,
-    0,
-    32,
-    24,
-    32,
-    16,
-    32,
-    24,
-    32,
-    8,
-    32,
-    24,
-    32,
-    16,
-    32,
-    24,
-    37,
-    29,
-    32,
-    24,
-    32,
-    16,
-    32,
-    24,
-    32,
-    8,
-    32,
-    24,
-    32,
-    16,
-    32,
-    24,
-    32,
-    0,
-    32,
-    24,
-    32,
-    16,
-    32,
-    24,
-    32,
-    8,
-    32,
-    24,
-    32,
-    16,
-    32,
-    24,
-    32,
-    37,
-    32,
-    24,
-    32,
-    16,
-    32,
-    24,
-    32,
-    8,
-    32,
-    24,
-    32,
-    16,
-    32,
-    24,
-    32,
-    0,
-    32,
-    24,
-    32,
-    16,
-    32,
-    24,
-    32,
-    8,
-    32,
-    24,
-    32,
-    16,
-    37,
-    29,
-    37,
-    21,
-    33,
-    25,
-    33,
-    17,
-    33,
-    25,
-    33,
-    9,
-    33,
-    25,
-    33,
-    17,
-    33,
-    25,
-    33,
-    1,
-    33,
-    25,
-    33,
-    17,
-    33,
-    25,
-    33,
-    9,
-    33,
-    25,
-    33,
-    17,
-    33,
-    25,
-    33,
-    37,
-    33,
-    25,
-    33,
-    17,
-    33,
-    25,
-    33,
-    9,
-    33,
-    25,
-    33,
-    17,
-    33,
-    25,
-    33,
-    1,
-    33,
-    25,
-    33,
-    17,
-    33,
-    25,
-    33,
-    9,
-    33,
-    25,
-    33,
-    17,
-    33,
-    25,
-    37,
-    29,
-    34,
-    26,
-    34,
-    18,
-    34,
-    26,
-    34,
-    10,
-    34,
-    26,
-    34,
-    18,
-    34,
-    26,
-    34,
-    2,
-    34,
-    26,
-    34,
-    18,
-    34,
-    26,
-    34,
-    10,
-    34,
-    26,
-    34,
-    18,
-    34,
-    26,
-    34,
-    37,
-    35,
-    27,
-    35,
-    19,
-    35,
-    27,
-    35,
-    11,
-    35,
-    27,
-    35,
-    19,
-    35,
-    27,
-    35,
-    3,
-    36,
-    28,
-    36,
-    20,
-    36,
-    28,
-    36,
-    12,
-    37,
-    29,
-    37,
-    21,
-    37,
-    29,
-    37,
-    13,
+// A byte stuffed: its 8, 9 or 10 bits, the lowest first, how many are more than 8, and the mask after it.
+pub struct Stuffed {
+    pub bits: u16,
+    pub more: u16,
+    pub mask: u16,
+}
+
+// For each byte: the bits that are a fifth one in a row if those before the byte are ones, and, times 256, the mask after it.
+const ROWS: [u16; 256] = [
+    61440,
+    61441,
+    61440,
+    61443,
+    61440,
+    61441,
+    61440,
+    61447,
+    61440,
+    61441,
+    61440,
+    61443,
+    61440,
+    61441,
+    61440,
+    61455,
+    61440,
+    61441,
+    61440,
+    61443,
+    61440,
+    61441,
+    61440,
+    61447,
+    61440,
+    61441,
+    61440,
+    61443,
+    61440,
+    61441,
+    61440,
+    61471,
+    61440,
+    61441,
+    61440,
+    61443,
+    61440,
+    61441,
+    61440,
+    61447,
+    61440,
+    61441,
+    61440,
+    61443,
+    61440,
+    61441,
+    61440,
+    61455,
+    61440,
+    61441,
+    61440,
+    61443,
+    61440,
+    61441,
+    61440,
+    61447,
+    61440,
+    61441,
+    61440,
+    61443,
+    61440,
+    61441,
+    61472,
+    61503,
+    61440,
+    61441,
+    61440,
+    61443,
+    61440,
+    61441,
+    61440,
+    61447,
+    61440,
+    61441,
+    61440,
+    61443,
+    61440,
+    61441,
+    61440,
+    61455,
+    61440,
+    61441,
+    61440,
+    61443,
+    61440,
+    61441,
+    61440,
+    61447,
+    61440,
+    61441,
+    61440,
+    61443,
+    61440,
+    61441,
+    61440,
+    61471,
+    61440,
+    61441,
+    61440,
+    61443,
+    61440,
+    61441,
+    61440,
+    61447,
+    61440,
+    61441,
+    61440,
+    61443,
+    61440,
+    61441,
+    61440,
+    61455,
+    61440,
+    61441,
+    61440,
+    61443,
+    61440,
+    61441,
+    61440,
+    61447,
+    61440,
+    61441,
+    61440,
+    61443,
+    61504,
+    61505,
+    61536,
+    61567,
+    63488,
+    63489,
+    63488,
+    63491,
+    63488,
+    63489,
+    63488,
+    63495,
+    63488,
+    63489,
+    63488,
+    63491,
+    63488,
+    63489,
+    63488,
+    63503,
+    63488,
+    63489,
+    63488,
+    63491,
+    63488,
+    63489,
+    63488,
+    63495,
+    63488,
+    63489,
+    63488,
+    63491,
+    63488,
+    63489,
+    63488,
+    63519,
+    63488,
+    63489,
+    63488,
+    63491,
+    63488,
+    63489,
+    63488,
+    63495,
+    63488,
+    63489,
+    63488,
+    63491,
+    63488,
+    63489,
+    63488,
+    63503,
+    63488,
+    63489,
+    63488,
+    63491,
+    63488,
+    63489,
+    63488,
+    63495,
+    63488,
+    63489,
+    63488,
+    63491,
+    63488,
+    63489,
+    63520,
+    63551,
+    64512,
+    64513,
+    64512,
+    64515,
+    64512,
+    64513,
+    64512,
+    64519,
+    64512,
+    64513,
+    64512,
+    64515,
+    64512,
+    64513,
+    64512,
+    64527,
+    64512,
+    64513,
+    64512,
+    64515,
+    64512,
+    64513,
+    64512,
+    64519,
+    64512,
+    64513,
+    64512,
+    64515,
+    64512,
+    64513,
+    64512,
+    64543,
+    65024,
+    65025,
+    65024,
+    65027,
+    65024,
+    65025,
+    65024,
+    65031,
+    65024,
+    65025,
+    65024,
+    65027,
+    65024,
+    65025,
+    65024,
+    65039,
+    65280,
+    65281,
+    65280,
+    65283,
+    65280,
+    65281,
+    65280,
+    65287,
+    61568,
+    61569,
+    61568,
+    61571,
+    63680,
+    63681,
+    64736,
+    65279,
 ];
 
-pub fn quiet(t: u8) -> u8
-    ensures { λ r. ⌜ r ≡ quietOf t ⌝ }
+// The table, for a caller that sends many bytes.
+pub fn rows() -> [u16; 256]
+    ensures { λ r. ⌜ r ≡ byteTable rowOf ⌝ }
 {
-    QUIET[t as usize]
+    ROWS
 }
 
-// The bits stuffed, one by one.
-fn stuff(bits: &[u8], out: &mut [u8], from: Sending) -> Sending
-    requires { ⌜ from .at + length (stuffed (from .left) (now bits)) ≤ length (now out) ⌝ }
-    ensures { λ r. ⌜ (r .at ≡ from .at + length (stuffed (from .left) (now (bits .entry)))) × (r .left ≡ leftAfter (from .left) (now (bits .entry))) × (now (out .exit) ≡ sets (now (out .entry)) (from .at) (stuffed (from .left) (now (bits .entry)))) ⌝ }
+// The bits above the lowest one; none where there is none.
+pub fn above(m: u16) -> u16
+    requires { ⌜ m < 256 ⌝ }
+    ensures { λ r. ⌜ r ≡ aboveOf m ⌝ }
 {
-    let mut left = from.left;
-    let mut o = from.at;
-    let mut i = 0;
-    while i < bits.len() {
-        let b = bits[i];
-        i += 1;
-        out[o] = b;
-        o += 1;
-        if b == 0 {
-            left = 4;
-        } else if left == 0 {
-            out[o] = 0;
-            o += 1;
-            left = 4;
-        } else {
-            left -= 1;
-        }
+    m ^ ((256 - m) % 256)
+}
+
+// The mask after a byte of ones only: five ones and a 0, and two or three ones more.
+fn after_ones(mask: u16) -> u16
+    requires { ⌜ Valid mask ⌝ }
+    ensures { λ r. ⌜ r ≡ afterOnes mask ⌝ }
+{
+    let unit = 256 - mask;
+    if unit <= 4 {
+        256 - unit * 4
+    } else {
+        256 - unit / 8
     }
-    Sending { at: o, left }
 }
 
-// A byte, its high bit first.
-pub fn send(t: u8, out: &mut [u8], from: Sending) -> Sending
-    requires { ⌜ (from .left ≤ 4) × (from .at + length (stuffed (from .left) (highFirst 8 t)) ≤ length (now out)) ⌝ }
-    ensures { λ r. ⌜ (r .at ≡ from .at + length (stuffed (from .left) (highFirst 8 t))) × (r .left ≡ leftAfter (from .left) (highFirst 8 t)) × (now (out .exit) ≡ sets (now (out .entry)) (from .at) (stuffed (from .left) (highFirst 8 t))) ⌝ }
+// A byte that may need two zeros, or is all ones. m: its fifth ones; after: the mask after it, if it is not all ones.
+fn stuff_more(b: u16, m: u16, after: u16, mask: u16) -> Stuffed
+    requires { ⌜ Twice b m after mask ⌝ }
+    ensures { λ r. ⌜ Stuffs b mask (r .bits) (r .more) (r .mask) ⌝ }
 {
-    let at = from.at;
-    let q = quiet(t);
-    if q % 8 <= from.left {
-        put_bits(out, at, t, 8);
-        return Sending {
-            at: at + 8,
-            left: q / 8,
+    let high = above(m);
+    let second = m & (high * 16);
+    let bits = b + (b & high) + 2 * (b & above(second));
+    let more = 1 + (second + 255) / 256;
+    if b == 255 {
+        return Stuffed {
+            bits,
+            more,
+            mask: after_ones(mask),
         };
     }
-    let mut eight = [0u8; 8];
-    put_bits(&mut eight, 0, t, 8);
-    stuff(&eight, out, from)
+    Stuffed {
+        bits,
+        more,
+        mask: after,
+    }
 }
 
-// The bytes of a payload as sent: each turned, and its high bit first.
-pub fn send_all(payload: &[u8], out: &mut [u8], from: Sending) -> Sending
-    requires { ⌜ (from .left ≤ 4) × (from .at + length (stuffed (from .left) (sentBits (now payload))) ≤ length (now out)) ⌝ }
-    ensures { λ r. ⌜ (r .at ≡ from .at + length (stuffed (from .left) (sentBits (now (payload .entry))))) × (r .left ≡ leftAfter (from .left) (sentBits (now (payload .entry)))) × (now (out .exit) ≡ sets (now (out .entry)) (from .at) (stuffed (from .left) (sentBits (now (payload .entry))))) ⌝ }
+// The bits of a byte, the low one first, with the zeros put in.
+fn stuff_byte(rows: &[u16; 256], byte: u8, mask: u16) -> Stuffed
+    requires { ⌜ (now rows ≡ byteTable rowOf) × Valid mask ⌝ }
+    ensures { λ r. ⌜ Stuffs byte mask (r .bits) (r .more) (r .mask) ⌝ }
 {
-    let mut place = from;
-    let mut i = 0;
-    while i < payload.len() {
-        place = send(turn(payload[i]), out, place);
-        i += 1;
+    let b = byte as u16;
+    let row = rows[byte as usize];
+    let m = row & mask;
+    let high = above(m);
+    if m & (high * 16) != 0 {
+        return stuff_more(b, m, row / 256, mask);
     }
-    place
+    if b == 255 {
+        return stuff_more(b, m, row / 256, mask);
+    }
+    Stuffed {
+        bits: b + (b & high),
+        more: (m + 255) / 256,
+        mask: row / 256,
+    }
+}
+
+// The low ten bits of a number, the lowest first.
+fn put_ten(bits: u16, out: &mut [u8], at: usize)
+    requires { ⌜ at + 10 ≤ length (now out) ⌝ }
+    ensures { λ _. ⌜ now (out .exit) ≡ sets (now (out .entry)) at (lowFirst 10 bits) ⌝ }
+{
+    store_eight(out, at, spread((bits % 256) as u8));
+    out[at + 8] = (bits / 256 % 2) as u8;
+    out[at + 9] = (bits / 512 % 2) as u8;
+}
+
+// A byte, its low bit first. It always stores ten bits; whatever comes next, a flag at the least, covers those too many.
+pub fn send(rows: &[u16; 256], byte: u8, out: &mut [u8], from: Sending) -> Sending
+    requires { ⌜ (now rows ≡ byteTable rowOf) × Valid (from .mask) × (from .at + 10 ≤ length (now out)) ⌝ }
+    ensures { λ r. ⌜ Leads (lowFirst 8 byte) from (now (out .entry)) r (now (out .exit)) ⌝ }
+{
+    let at = from.at;
+    let x = stuff_byte(rows, byte, from.mask);
+    put_ten(x.bits, out, at);
+    Sending {
+        at: at + 8 + x.more as usize,
+        mask: x.mask,
+    }
 }

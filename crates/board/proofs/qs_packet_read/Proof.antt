@@ -11,36 +11,25 @@ use Rattle.board.proofs.Faces.{face}
 use borrow.Author.Needs.{needs}
 use Rattle.board.proofs.qs_packet_read.Statement.{statement}
 use Rattle.board.proofs.qs_packet_read.Tie as tie
-use Rattle.board.proofs.qs_packet_read.Reads as reads
-use Rattle.board.proofs.qs_packet_read.Lts as lts
-use Rattle.numbers.proofs.number.Reads as number-reads
-use Rattle.packet.proofs.read.Reads as read-reads
 
--- src/lib.rt:28:9
 read-requires : tie.Need-read-requires
 read-requires c κs = search needs
 
--- src/lib.rt:30:25
 enum-known-answer : tie.Need-enum-known-answer
 enum-known-answer c = search needs
 
--- src/lib.rt:31:22
 cast-count : tie.Need-cast-count
 cast-count c = omega (arith, received-few _ _ _ (sym (c .before .before .before .before .before .read .ensures .0) ∙ c .before .answer .given .1))
 
--- src/lib.rt:34:27
 enum-known-answer-2 : tie.Need-enum-known-answer-2
 enum-known-answer-2 c = search needs
 
--- src/lib.rt:34:33
 number-requires : tie.Need-number-requires
 number-requires c κs = search needs
 
--- src/lib.rt:24:1
 same-length : tie.Need-same-length
 same-length c = search needs
 
--- src/lib.rt:24:1
 returns : tie.Need-returns
 returns c =
     let args = c .before .before .before .before .before .before .before .before .before .args in
@@ -48,11 +37,9 @@ returns c =
     let b = args .payload .now in
     face receivedNumber (λ (a : Received). readOut a (frameIn (bodyOf p)) b) (λ (a : Received). receivedCount a (args .count .now)) (c .before .before .before .before .before .read .ensures) _ (c .before .answer .given .1) refl refl
 
--- src/lib.rt:24:1
 same-length-2 : tie.Need-same-length-2
 same-length-2 c = search needs
 
--- src/lib.rt:24:1
 returns-2 : tie.Need-returns-2
 returns-2 c =
     let args = c .before .before .before .before .before .before .before .before .before .before .args in

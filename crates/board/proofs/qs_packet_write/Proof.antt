@@ -11,36 +11,25 @@ use Rattle.board.proofs.Faces.{face}
 use borrow.Author.Needs.{needs}
 use Rattle.board.proofs.qs_packet_write.Statement.{statement}
 use Rattle.board.proofs.qs_packet_write.Tie as tie
-use Rattle.board.proofs.qs_packet_write.Reads as reads
-use Rattle.board.proofs.qs_packet_write.Lts as lts
-use Rattle.numbers.proofs.number.Reads as number-reads
-use Rattle.packet.proofs.write.Reads as write-reads
 
--- src/lib.rt:14:9
 write-requires : tie.Need-write-requires
 write-requires c κs = search needs
 
--- src/lib.rt:16:23
 enum-known-answer : tie.Need-enum-known-answer
 enum-known-answer c = search needs
 
--- src/lib.rt:17:22
 cast-count : tie.Need-cast-count
 cast-count c = omega (arith, written-few _ _ _ (sym (c .before .before .before .before .before .write .ensures .0) ∙ c .before .answer .given .1))
 
--- src/lib.rt:20:26
 enum-known-answer-2 : tie.Need-enum-known-answer-2
 enum-known-answer-2 c = search needs
 
--- src/lib.rt:20:32
 number-requires : tie.Need-number-requires
 number-requires c κs = search needs
 
--- src/lib.rt:10:1
 same-length : tie.Need-same-length
 same-length c = search needs
 
--- src/lib.rt:10:1
 returns : tie.Need-returns
 returns c =
     let args = c .before .before .before .before .before .before .before .before .before .args in
@@ -48,11 +37,9 @@ returns c =
     let b = args .bits .now in
     face writtenNumber (λ (a : Written). writeOut a p b) (λ (a : Written). writtenCount a (args .count .now)) (c .before .before .before .before .before .write .ensures) _ (c .before .answer .given .1) refl refl
 
--- src/lib.rt:10:1
 same-length-2 : tie.Need-same-length-2
 same-length-2 c = search needs
 
--- src/lib.rt:10:1
 returns-2 : tie.Need-returns-2
 returns-2 c =
     let args = c .before .before .before .before .before .before .before .before .before .before .args in

@@ -1,17 +1,14 @@
--- `link::turn::turn` meets its contract: the table is the list that `turned` fills, by computation of its 256 entries.
--- Assumes nothing.
-use borrow.Author.Needs.{needs}
+use Rattle.laws.proofs.Table.{byte-entry}
 use Rattle.bits.specs.Bits.{turned}
-use Rattle.laws.proofs.Table.{entry}
+use borrow.Author.Needs.{needs}
 use Rattle.bits.proofs.turn.turn.Statement.{statement}
 use Rattle.bits.proofs.turn.turn.Tie as tie
 
-array-read-result : tie.Need-array-read-result
-array-read-result c = search needs
+element-copy-out-result : tie.Need-element-copy-out-result
+element-copy-out-result c = search needs
 
 returns : tie.Need-returns
-unfolding turned
-returns c = entry turned 256 (c .args .b) (search needs)
+returns c = byte-entry turned (c .before .args .b) (c .before .pre) (search needs)
 
 pub turn-spec : {M : Type 1} → statement M
-turn-spec = tie.close (tie.spec array-read-result returns)
+turn-spec = tie.close (tie.spec element-copy-out-result returns)

@@ -1,68 +1,92 @@
-use mathlib.Core.Path.{refl}
-use Prim.Native.Nat.{_+_, _*_, _%_, _^_, _<_}
+use mathlib.Core.Path.{_≡_, refl, sym, ap, _∙_}
+use mathlib.Core.Bool.{false}
+use mathlib.Core.List.{List}
+use Prim.Native.Nat.{ℕ, _+_, _*_, _%_, _^_, _<_}
 use native.Mathlib.Omega.{arith}
-use Rattle.packet.proofs.Takings.{byte-fits, took-quiet}
+use lib.ListN.{length-set}
+use Rattle.bits.specs.Bits.{sentBits}
+use Rattle.packet.specs.Check.{through}
+use Rattle.packet.specs.Taking.{Unstuffs}
+use Rattle.packet.proofs.Takings.{sum-fits, check-kept, took-spoilt, took-part, took-whole}
 use borrow.Author.Needs.{needs}
 use Rattle.packet.proofs.unstuff.take_byte.Statement.{statement}
 use Rattle.packet.proofs.unstuff.take_byte.Tie as tie
-use Rattle.packet.proofs.unstuff.take_byte.Reads as reads
-use Rattle.packet.proofs.unstuff.take_byte.Lts as lts
 
--- src/unstuff.rt:102:14
-cast-w : tie.Need-cast-w
-cast-w c = search needs
+unstuff-byte-requires : tie.Need-unstuff-byte-requires
+unstuff-byte-requires c κs = search needs
 
--- src/unstuff.rt:102:46
-cast-w-2 : tie.Need-cast-w-2
-cast-w-2 c = search needs
+cast-tail : tie.Need-cast-tail
+cast-tail c = search needs
 
--- src/unstuff.rt:102:32
-shl-w : tie.Need-shl-w
-shl-w c = search needs
+returns : tie.Need-returns
+returns c =
+    let s = c .before .before .before in
+    let u : Unstuffs (s .args .s .tail) (s .args .v) _ _ _ = c .before .unstuff-byte .ensures in
+    took-spoilt _ _ _ (s .pre .2) (rw (c .if1 .taken) at u) (omega (arith, s .fits .v)) refl refl refl refl refl refl
 
-fits-16 : (c : tie.After-struct-known) → c .before .args .s .part + c .before .args .v * 2 ^ c .before .args .s .have % 65536 < 65536
-fits-16 c =
-    let so = c .before .pre .1 in
-    byte-fits _ (c .before .args .v) (c .before .args .s .have) (so .small) (omega arith) (so .under)
+shl-part : tie.Need-shl-part
+shl-part c = search needs
 
-add-w : tie.Need-add-w
-add-w c = record { fits = fits-16 c }
+add-part : tie.Need-add-part
+add-part c =
+    let s = c .before .before .before .before .before in
+    let u = rw (c .before .before .if1 .left) at (c .before .before .before .unstuff-byte .ensures) in
+    record { fits = sum-fits _ _ _ _ (s .pre .2 .small) (s .pre .2 .under) (u .few) (u .small refl) }
 
--- src/unstuff.rt:104:18
+add-t16 : tie.Need-add-t16
+add-t16 c = search needs
+
+sub-t17 : tie.Need-sub-t17
+sub-t17 c = search needs
+
+returns-2 : tie.Need-returns-2
+returns-2 c =
+    let s = c .before .before .before .before .before .before in
+    let u = rw (c .before .before .before .if1 .left) at (c .before .before .before .before .unstuff-byte .ensures) in
+    took-part _ _ _ (s .pre .2) _ _ _ u (omega (arith, s .fits .v)) refl refl (c .if2 .taken) refl refl refl refl
+
 cast-raw : tie.Need-cast-raw
 cast-raw c = search needs
 
--- src/unstuff.rt:104:5
 slice-write-raw : tie.Need-slice-write-raw
 slice-write-raw c = search needs
 
--- src/unstuff.rt:108:15
-cast-t12 : tie.Need-cast-t12
-cast-t12 c = omega (arith, fits-16 c)
+checked-on-requires : tie.Need-checked-on-requires
+checked-on-requires c κs =
+    let s = c .before .before .before .before .before .before .before in (
+      s .pre .0,
+      s .pre .1,
+      rw length-set (omega (arith, s .pre .3)),
+      s .pre .2 .check ∙ sym (ap (λ (t : List ℕ). through 0xffff (sentBits t)) (check-kept (s .args .raw .now) (s .args .s .count) _)),
+    )
 
--- src/unstuff.rt:110:16
-add-t14 : tie.Need-add-t14
-add-t14 c = search needs
+add-t22 : tie.Need-add-t22
+add-t22 c = search needs
 
--- src/unstuff.rt:97:1
 same-length : tie.Need-same-length
 same-length c = search needs
 
--- src/unstuff.rt:97:1
-returns : tie.Need-returns
-returns c = took-quiet (c .before .pre .1) (omega arith) (c .before .pre .0) refl refl refl refl
+returns-3 : tie.Need-returns-3
+returns-3 c =
+    let s = c .before .before .before .before .before .before .before .before in
+    let u = rw (c .before .before .before .before .before .if1 .left) at (c .before .before .before .before .before .before .unstuff-byte .ensures) in
+    took-whole _ _ _ (s .pre .2) _ _ _ u (omega (arith, s .fits .v)) refl refl (c .before .before .if2 .left) refl refl refl (c .checked-on .ensures)
 
 pub take-byte-spec : {M : Type 1} → statement M
 take-byte-spec =
     tie.close
     (tie.spec
-    cast-w
-    cast-w-2
-    shl-w
-    add-w
+    unstuff-byte-requires
+    cast-tail
+    returns
+    shl-part
+    add-part
+    add-t16
+    sub-t17
+    returns-2
     cast-raw
     slice-write-raw
-    cast-t12
-    add-t14
+    checked-on-requires
+    add-t22
     same-length
-    returns)
+    returns-3)

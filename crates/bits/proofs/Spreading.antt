@@ -1,0 +1,110 @@
+-- A byte's bits as eight bytes, and back: a test at each byte, and places counted up.
+-- Assumes nothing.
+use mathlib.Core.Path.{_≡_, refl, sym, ap, ap₂, _∙_}
+use mathlib.Core.Bool.{Bool, true, false}
+use mathlib.Core.List.{List, [], _∷_}
+use Prim.Native.Nat.{ℕ, suc, _+_, _*_, _/_, _%_, _^_, _≤_, _<_}
+use native.Mathlib.Omega.{arith}
+use lib.Bits.{bitAnd}
+use borrow.Author.Tests.{eqb-true}
+use lib.Dec.{T, eqb, ltb, ltb→lt}
+use lib.ListN.{length, getD, take, drop, set, length-drop}
+use lib.Seq.{sets, getD-take, getD-drop, length-take-le}
+use Rattle.laws.specs.Tests.{both}
+use Rattle.laws.specs.Lists.{same}
+use Rattle.laws.proofs.Tests.{is-true, of-true, both-left, both-right}
+use Rattle.laws.proofs.Lists.{same→eq}
+use Rattle.laws.proofs.Table.{allBelow, below}
+use Rattle.bits.specs.Bits.{lowFirst, lowValue, allBits, eightOf, fourOf}
+use Rattle.bits.proofs.Bits.{bit-at, allBits-take, allBits-drop, bits-back, value-bound}
+
+-- as the code computes it
+pub spreading : ℕ → ℕ
+spreading b = bitAnd (b % 128 * 0x0002040810204081) 0x0101010101010101 + b / 128 * 2 ^ 56 % 2 ^ 64
+
+spreads-well : ℕ → Bool
+unfolding spreading same lowFirst eightOf
+spreads-well b = both (ltb (spreading b) (2 ^ 64)) (same (eightOf (spreading b)) (lowFirst 8 b))
+
+all-spread-well : T (allBelow spreads-well 256)
+unfolding spreads-well
+all-spread-well = tt
+
+well : (b : ℕ) → b < 256 → both (ltb (spreading b) (2 ^ 64)) (same (eightOf (spreading b)) (lowFirst 8 b)) ≡ true
+unfolding spreads-well
+well b h = is-true {b = spreads-well b} (below spreads-well 256 all-spread-well b h)
+
+pub spread-fits : (b : ℕ) → b < 256 → bitAnd (b % 128 * 0x0002040810204081) 0x0101010101010101 + b / 128 * 2 ^ 56 % 2 ^ 64 < 2 ^ 64
+unfolding spreading
+spread-fits b h = ltb→lt (spreading b) (2 ^ 64) (of-true (both-left (ltb (spreading b) (2 ^ 64)) (same (eightOf (spreading b)) (lowFirst 8 b)) (well b h)))
+
+pub spread-bits : (b : ℕ) → b < 256 → eightOf (bitAnd (b % 128 * 0x0002040810204081) 0x0101010101010101 + b / 128 * 2 ^ 56 % 2 ^ 64) ≡ lowFirst 8 b
+unfolding spreading
+spread-bits b h = same→eq _ _ (both-right (ltb (spreading b) (2 ^ 64)) (same (eightOf (spreading b)) (lowFirst 8 b)) (well b h))
+
+-- eight stores, each at the next place
+places : (at : ℕ) → (at + 1 ≡ suc at) × (at + 2 ≡ suc (suc at)) × (at + 3 ≡ suc (suc (suc at))) × (at + 4 ≡ suc (suc (suc (suc at))))
+    × (at + 5 ≡ suc (suc (suc (suc (suc at))))) × (at + 6 ≡ suc (suc (suc (suc (suc (suc at)))))) × (at + 7 ≡ suc (suc (suc (suc (suc (suc (suc at)))))))
+places at = (omega arith, omega arith, omega arith, omega arith, omega arith, omega arith, omega arith)
+
+eight-sets : (out : List ℕ) (at a b c d e f g h : ℕ) →
+    set (set (set (set (set (set (set (set out at a) (at + 1) b) (at + 2) c) (at + 3) d) (at + 4) e) (at + 5) f) (at + 6) g) (at + 7) h
+    ≡ sets out at (a ∷ b ∷ c ∷ d ∷ e ∷ f ∷ g ∷ h ∷ [])
+eight-sets out at a b c d e f g h =
+    let p = places at in
+    rw (p .0, p .1, p .2, p .3, p .4, p .5, p .6)
+
+pub eight-stores : (out : List ℕ) (at z : ℕ) →
+    set (set (set (set (set (set (set (set out at (z % 256)) (at + 1) (z / 2 ^ 8 % 256)) (at + 2) (z / 2 ^ 16 % 256)) (at + 3) (z / 2 ^ 24 % 256))
+    (at + 4) (z / 2 ^ 32 % 256)) (at + 5) (z / 2 ^ 40 % 256)) (at + 6) (z / 2 ^ 48 % 256)) (at + 7) (z / 2 ^ 56 % 256)
+    ≡ sets out at (eightOf z)
+unfolding eightOf
+eight-stores out at z =
+    eight-sets out at (z % 256) (z / 2 ^ 8 % 256) (z / 2 ^ 16 % 256) (z / 2 ^ 24 % 256) (z / 2 ^ 32 % 256) (z / 2 ^ 40 % 256) (z / 2 ^ 48 % 256) (z / 2 ^ 56 % 256)
+
+-- ---- eight bits as a byte
+
+gathering : ℕ → ℕ
+unfolding fourOf lowFirst
+gathering v = (fourOf (lowFirst 8 v) 0 + fourOf (lowFirst 8 v) 4 * 16) * 0x01020408 / 16777216 % 256
+
+gathers-well : ℕ → Bool
+unfolding gathering
+gathers-well v = eqb (gathering v) v
+
+all-gather-well : T (allBelow gathers-well 256)
+unfolding gathers-well
+all-gather-well = tt
+
+-- the four bytes of a part are those of the whole
+four-part : (l : List ℕ) (at j : ℕ) → j + 4 ≤ 8 → fourOf l (at + j) ≡ fourOf (take 8 (drop at l)) j
+unfolding fourOf
+four-part l at j h =
+    let g : (i : ℕ) → i < 8 → getD l (at + i) 0 ≡ getD (take 8 (drop at l)) i 0 = λ i h. sym (getD-take 8 (drop at l) i 0 h ∙ getD-drop at l i 0) in
+    let a : at + j + 1 ≡ at + (j + 1) = omega arith in
+    let b : at + j + 2 ≡ at + (j + 2) = omega arith in
+    let c : at + j + 3 ≡ at + (j + 3) = omega arith in
+    rw (a, b, c, g j (omega arith), g (j + 1) (omega arith), g (j + 2) (omega arith), g (j + 3) (omega arith))
+
+module _ (l : List ℕ) (at : ℕ) (bits : allBits l ≡ true) (fits : at + 8 ≤ length l) where
+  eight : List ℕ
+  eight = take 8 (drop at l)
+
+  eight-is : lowFirst 8 (lowValue eight) ≡ eight
+  unfolding eight
+  eight-is = bits-back 8 (take 8 (drop at l)) (length-take-le 8 (drop at l) (omega (arith, length-drop at l))) (allBits-take 8 (drop at l) (allBits-drop at l bits))
+
+  pub gathered : {first last : ℕ} → first ≡ fourOf l at → last ≡ fourOf l (at + 4) → (first + last * 16) * 0x01020408 / 16777216 % 256 ≡ lowValue (take 8 (drop at l))
+  unfolding eight gathering gathers-well
+  gathered {first} {last} ef el =
+      let v = lowValue eight in
+      let z : at + 0 ≡ at = omega arith in
+      let f : first ≡ fourOf (lowFirst 8 v) 0 = ef ∙ ap (fourOf l) (sym z) ∙ four-part l at 0 (omega arith) ∙ ap (λ (t : List ℕ). fourOf t 0) (sym eight-is) in
+      let h : last ≡ fourOf (lowFirst 8 v) 4 = el ∙ four-part l at 4 (omega arith) ∙ ap (λ (t : List ℕ). fourOf t 4) (sym eight-is) in
+      ap₂ (λ (x y : ℕ). (x + y * 16) * 0x01020408 / 16777216 % 256) f h
+      ∙ eqb-true _ _ (is-true {b = gathers-well v} (below gathers-well 256 all-gather-well v (value-bound 8 (drop at l) (allBits-drop at l bits))))
+
+  pub four-small : (j : ℕ) → j + 4 ≤ 8 → fourOf l (at + j) ≤ 0x01010101
+  unfolding fourOf
+  four-small j h =
+      omega (arith, bit-at l (at + j) bits (omega arith), bit-at l (at + j + 1) bits (omega arith), bit-at l (at + j + 2) bits (omega arith), bit-at l (at + j + 3) bits (omega arith))
