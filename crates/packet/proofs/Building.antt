@@ -7,20 +7,20 @@ use native.Mathlib.Numerals.{add-one}
 use native.Mathlib.Nat.{zero-add}
 use native.Mathlib.Omega.{arith}
 use lib.Count.{trailingZeros}
-use lib.ListN.{length, getD, take, drop, length-append, length-drop, take-append-drop}
-use lib.Seq.{sets, length-sets, take-suc, take-all}
+use lib.ListN.{length, getD, List·getD-append, take, drop, length-append, length-drop, take-append-drop}
+use lib.Seq.{sets, length-sets, take-suc, take-all, getD-append-add}
 use Rattle.laws.specs.Lists.{over}
 use Rattle.laws.proofs.Lists.{sets-append, stored-over}
 use Rattle.laws.proofs.Loops.{Fold, fold-none, fold-more, fold-end}
 use Rattle.bits.specs.Bits.{lowFirst, highFirst, turned, sentBits, eightOf}
 use Rattle.bits.proofs.Bits.{length-highFirst, length-lowFirst, high-split}
-use Rattle.bits.proofs.Bytes.{sentBits-more, sentBits-end, sent-append, length-sent, turned-back}
+use Rattle.bits.proofs.Bytes.{sentBits-more, sentBits-end, sent-append, length-sent, sent-byte, turned-back}
 use Rattle.packet.specs.Check.{through, checkOf}
 use Rattle.packet.specs.Stuff.{flag, stuffed, leftAfter}
 use Rattle.packet.specs.Sending.{leftOf, Valid, toCome, Leads}
-use Rattle.packet.specs.Packet.{frameOf, packetOf}
+use Rattle.packet.specs.Packet.{frameOf, frameBytes, packetOf}
 use Rattle.packet.specs.declared.stuff.Sending.{Sending}
-use Rattle.packet.proofs.Register.{byte-turn, through-end}
+use Rattle.packet.proofs.Register.{through-append, through-end}
 use Rattle.packet.proofs.Stuffing.{stuffed-append, stuffed-bound, stuffed-end}
 use Rattle.packet.proofs.Sending.{toCome-long, leads-on, leads-nowhere, mask-valid}
 
@@ -45,124 +45,122 @@ length-packet p = simp length-append (omega (arith, length-flag))
 pub packet-short : (p : List ℕ) → length p ≤ 21 → length (packetOf p) ≤ 236
 packet-short p h = omega (arith, length-packet p, stuffed-bound 4 (frameOf p) (omega arith), length-frame p)
 
--- ---- the payload, byte by byte
+-- ---- the frame, byte by byte
 
-unfoldable pub throughBytes : ℕ → List ℕ → ℕ
-throughBytes r bs = through r (sentBits bs)
+pub frame-bits : (p : List ℕ) → sentBits (frameBytes p) ≡ frameOf p
+unfolding frameBytes frameOf
+frame-bits p =
+    let c = checkOf (sentBits p) in
+    let t₁ = turned (c / 256) in
+    let t₂ = turned (c % 256) in
+    let two : sentBits (t₁ ∷ t₂ ∷ []) ≡ highFirst 16 c =
+    sentBits-more t₁ (t₂ ∷ []) ∙ ap₂ _++_ (turned-back (c / 256) (omega arith)) (sentBits-more t₂ [] ∙ ap (lowFirst 8 t₂ ++_) sentBits-end ∙ append-nil (lowFirst 8 t₂) ∙ turned-back (c % 256) (omega arith))
+    ∙ sym (high-split c) in
+    sent-append p (t₁ ∷ t₂ ∷ []) ∙ ap (sentBits p ++_) two
 
-pub record Underway (payload out₀ : List ℕ) (s₀ : Sending) (out : List ℕ) (s : Sending) (reg i : ℕ) : Type 0 where
-  pub leads : Leads (sentBits (take i payload)) s₀ out₀ s out
-  pub check : Fold throughBytes 0xffff payload reg i
+pub length-frameBytes : (p : List ℕ) → length (frameBytes p) ≡ length p + 2
+unfolding frameBytes
+length-frameBytes p = length-append p _
+
+module _ (p : List ℕ) (i : ℕ) {reg : ℕ} (er : reg ≡ through 0xffff (sentBits (take i p))) where
+  pub in-payload : {b t reg′ : ℕ} → i < length p → b ≡ getD p i 0 → b < 256 → t ≡ turned b → reg′ ≡ through reg (highFirst 8 t)
+      → (b ≡ getD (frameBytes p) i 0) × (reg′ ≡ through 0xffff (sentBits (take (i + 1) p)))
+  unfolding frameBytes
+  in-payload {b} {t} {reg′} more eb byte et e =
+      let s : sentBits (take (i + 1) p) ≡ sentBits (take i p) ++ lowFirst 8 b =
+      ap sentBits (ap (λ (n : ℕ). take n p) (add-one i) ∙ take-suc p i 0 more ∙ ap (λ (x : ℕ). take i p ++ (x ∷ [])) (sym eb)) ∙ sent-append (take i p) (b ∷ [])
+      ∙ ap (sentBits (take i p) ++_) (sentBits-more b [] ∙ ap (lowFirst 8 b ++_) sentBits-end ∙ append-nil (lowFirst 8 b)) in (
+        eb ∙ sym (List·getD-append p _ 0 i more),
+        e ∙ ap (λ (x : ℕ). through reg (highFirst 8 x)) et ∙ ap (through reg) (sent-byte b byte) ∙ ap (λ (r : ℕ). through r (lowFirst 8 b)) er
+            ∙ sym (ap (through 0xffff) s ∙ through-append (sentBits (take i p)) (lowFirst 8 b) 0xffff),
+      )
+
+  module _ (past : length p ≤ i) where
+    pub reg-stays : reg ≡ through 0xffff (sentBits (take (i + 1) p))
+    reg-stays = er ∙ ap (λ (l : List ℕ). through 0xffff (sentBits l)) (take-all i p past ∙ sym (take-all (i + 1) p (omega arith)))
+
+    reg-is : reg ≡ through 0xffff (sentBits p)
+    reg-is = er ∙ ap (λ (l : List ℕ). through 0xffff (sentBits l)) (take-all i p past)
+
+    pub upper-byte : {t : ℕ} → i ≡ length p → t ≡ turned ((0xffff - reg) / 256) → t ≡ getD (frameBytes p) i 0
+    unfolding frameBytes
+    upper-byte {t} e et =
+        let n : i ≡ length p + 0 = omega arith in
+        et ∙ ap (λ (r : ℕ). turned ((0xffff - r) / 256)) reg-is ∙ sym (ap (λ (k : ℕ). getD (frameBytes p) k 0) n ∙ getD-append-add p _ 0 0)
+
+    pub lower-byte : {t : ℕ} → (i ≡ length p → ⊥) → i < length p + 2 → t ≡ turned ((0xffff - reg) % 256) → t ≡ getD (frameBytes p) i 0
+    unfolding frameBytes
+    lower-byte {t} ne less et =
+        let n : i ≡ length p + 1 = omega arith in
+        et ∙ ap (λ (r : ℕ). turned ((0xffff - r) % 256)) reg-is ∙ sym (ap (λ (k : ℕ). getD (frameBytes p) k 0) n ∙ getD-append-add p _ 1 0)
+
+pub record Underway (p out₀ : List ℕ) (s₀ : Sending) (out : List ℕ) (s : Sending) (reg i : ℕ) : Type 0 where
+  pub leads : Leads (sentBits (take i (frameBytes p))) s₀ out₀ s out
+  pub check : reg ≡ through 0xffff (sentBits (take i p))
+  pub within : i ≤ length p + 2
   pub long : length out ≡ length out₀
 
-pub underway-start : (payload out : List ℕ) (s : Sending) → Valid (s .mask) → Underway payload out s out s 0xffff 0
-underway-start payload out s v = record { leads = rw sentBits-end (leads-nowhere v); check = fold-none _ _ _; long = refl }
+pub underway-start : (p out : List ℕ) (s : Sending) → Valid (s .mask) → Underway p out s out s 0xffff 0
+underway-start p out s v =
+    record { leads = rw sentBits-end (leads-nowhere v); check = sym (ap (through 0xffff) sentBits-end ∙ through-end 0xffff); within = omega arith; long = refl }
 
-module _ {payload out₀ : List ℕ} {s₀ : Sending} {out : List ℕ} {s : Sending} {reg i : ℕ} (u : Underway payload out₀ s₀ out s reg i) (more : i < length payload) where
-  pub underway-room : s₀ .at + length (toCome (s₀ .mask) (sentBits payload)) ≤ length out₀ → s .at + 10 ≤ length out
+module _ {p out₀ : List ℕ} {s₀ : Sending} {out : List ℕ} {s : Sending} {reg i : ℕ} (u : Underway p out₀ s₀ out s reg i) (more : i < length p + 2) where
+  pub underway-room : s₀ .at + length (toCome (s₀ .mask) (frameOf p)) ≤ length out₀ → s .at + 10 ≤ length out
   underway-room fits =
-      let rest = drop i payload in
-      let e : sentBits (take i payload) ++ sentBits rest ≡ sentBits payload = sym (sent-append (take i payload) rest) ∙ ap sentBits (take-append-drop i payload) in
+      let f = frameBytes p in
+      let rest = drop i f in
+      let e : sentBits (take i f) ++ sentBits rest ≡ frameOf p = sym (sent-append (take i f) rest) ∙ ap sentBits (take-append-drop i f) ∙ frame-bits p in
       let z = u .leads .size (sentBits rest) ∙ ap (λ (t : List ℕ). s₀ .at + length (toCome (s₀ .mask) t)) e in
-      omega (arith, z, toCome-long (s .mask) (sentBits rest), length-sent rest, length-drop i payload, u .long)
+      omega (arith, z, toCome-long (s .mask) (sentBits rest), length-sent rest, length-drop i f, length-frameBytes p, u .long)
 
-  pub underway-turn : {out′ : List ℕ} {s′ : Sending} {t reg′ : ℕ} → getD payload i 0 < 256 → t ≡ turned (getD payload i 0) → reg′ ≡ through reg (highFirst 8 t)
-      → Leads (lowFirst 8 (getD payload i 0)) s out s′ out′ → length out′ ≡ length out → Underway payload out₀ s₀ out′ s′ reg′ (i + 1)
-  unfolding throughBytes
-  underway-turn byte et er l long =
-      let b = getD payload i 0 in
+  pub underway-turn : {out′ : List ℕ} {s′ : Sending} {b reg′ : ℕ} → b ≡ getD (frameBytes p) i 0 → reg′ ≡ through 0xffff (sentBits (take (i + 1) p))
+      → Leads (lowFirst 8 b) s out s′ out′ → length out′ ≡ length out → Underway p out₀ s₀ out′ s′ reg′ (i + 1)
+  underway-turn {b = b} eb er l long =
+      let f = frameBytes p in
       let one : sentBits (b ∷ []) ≡ lowFirst 8 b = sentBits-more b [] ∙ ap (lowFirst 8 b ++_) sentBits-end ∙ append-nil (lowFirst 8 b) in
-      let e : sentBits (take (i + 1) payload) ≡ sentBits (take i payload) ++ lowFirst 8 b =
-      ap sentBits (ap (λ (n : ℕ). take n payload) (add-one i) ∙ take-suc payload i 0 more) ∙ sent-append (take i payload) (b ∷ []) ∙ ap (sentBits (take i payload) ++_) one in
-      record {
-        leads = rw e (leads-on (u .leads) l);
-        check = fold-more (u .check) more _ (byte-turn _ _ b _ byte (er ∙ ap (λ (x : ℕ). through reg (highFirst 8 x)) et));
-        long = long ∙ u .long;
-      }
+      let e : sentBits (take (i + 1) f) ≡ sentBits (take i f) ++ lowFirst 8 b =
+      ap sentBits (ap (λ (n : ℕ). take n f) (add-one i) ∙ take-suc f i 0 (omega (arith, length-frameBytes p)) ∙ ap (λ (x : ℕ). take i f ++ (x ∷ [])) (sym eb))
+      ∙ sent-append (take i f) (b ∷ []) ∙ ap (sentBits (take i f) ++_) one in
+      record { leads = rw e (leads-on (u .leads) l); check = er; within = omega arith; long = long ∙ u .long }
 
-pub underway-end : {payload out₀ : List ℕ} {s₀ : Sending} {out : List ℕ} {s : Sending} {reg i : ℕ} → Underway payload out₀ s₀ out s reg i → length payload ≤ i
-    → (reg ≡ through 0xffff (sentBits payload)) × Leads (sentBits payload) s₀ out₀ s out
-unfolding throughBytes
-underway-end {payload} {reg = reg} {i = i} u past =
-    (sym (ap (through reg) sentBits-end ∙ through-end reg) ∙ fold-end (u .check) past, rw (take-all i payload past) at (u .leads))
+pub underway-end : {p out₀ : List ℕ} {s₀ : Sending} {out : List ℕ} {s : Sending} {reg i : ℕ} → Underway p out₀ s₀ out s reg i → length p + 2 ≤ i → Leads (frameOf p) s₀ out₀ s out
+underway-end {p} {i = i} u past =
+    let f = frameBytes p in
+    rw (ap sentBits (take-all i f (omega (arith, length-frameBytes p))) ∙ frame-bits p) at (u .leads)
 
--- ---- the check and the closing flag
+-- ---- the whole packet
 
 toCome-none : (mask : ℕ) → toCome mask [] ≡ flag
 unfolding toCome
 toCome-none mask = ap (_++ flag) (stuffed-end (leftOf mask))
-
-pub upper-room : (check : ℕ) (out : List ℕ) (s : Sending) → s .at + length (toCome (s .mask) (highFirst 16 check)) ≤ length out → s .at + 10 ≤ length out
-upper-room check out s room = omega (arith, toCome-long (s .mask) (highFirst 16 check), length-highFirst 16 check)
-
-module _ (check : ℕ) {out out₁ : List ℕ} {s s₁ : Sending} {t₁ t₂ : ℕ} (small : check < 65536) (room : s .at + length (toCome (s .mask) (highFirst 16 check)) ≤ length out)
-    (e₁ : t₁ ≡ turned (check / 256)) (e₂ : t₂ ≡ turned (check % 256)) (upper : Leads (lowFirst 8 t₁) s out s₁ out₁) (long₁ : length out₁ ≡ length out) where
-  check-is : lowFirst 8 t₁ ++ lowFirst 8 t₂ ≡ highFirst 16 check
-  check-is =
-      ap₂ _++_ (ap (lowFirst 8) e₁ ∙ turned-back (check / 256) (omega arith)) (ap (lowFirst 8) e₂ ∙ turned-back (check % 256) (omega arith))
-      ∙ sym (high-split check)
-
-  pub lower-room : s₁ .at + 10 ≤ length out₁
-  lower-room =
-      let z = upper .size (lowFirst 8 t₂) ∙ ap (λ (t : List ℕ). s .at + length (toCome (s .mask) t)) check-is in
-      omega (arith, z, toCome-long (s₁ .mask) (lowFirst 8 t₂), length-lowFirst 8 t₂)
-
-  module _ {out₂ : List ℕ} {s₂ : Sending} (lower : Leads (lowFirst 8 t₂) s₁ out₁ s₂ out₂) (long₂ : length out₂ ≡ length out₁) where
-    all-led : Leads (highFirst 16 check) s out s₂ out₂
-    all-led = rw check-is at (leads-on upper lower)
-
-    pub closed-at : s₂ .at + 8 ≡ s .at + length (toCome (s .mask) (highFirst 16 check))
-    closed-at =
-        let z = all-led .size [] ∙ ap (λ (t : List ℕ). s .at + length (toCome (s .mask) t)) (append-nil (highFirst 16 check)) in
-        omega (arith, z, ap length (toCome-none (s₂ .mask)), length-flag)
-
-    pub flag-room : s₂ .at + 8 ≤ length out₂
-    flag-room = omega (arith, closed-at)
-
-    pub closed : {out₃ : List ℕ} → out₃ ≡ sets out₂ (s₂ .at) flag → out₃ ≡ sets out (s .at) (toCome (s .mask) (highFirst 16 check))
-    closed e₃ =
-        e₃ ∙ ap (sets out₂ (s₂ .at)) (sym (toCome-none (s₂ .mask))) ∙ all-led .stored []
-        ∙ ap (λ (t : List ℕ). sets out (s .at) (toCome (s .mask) t)) (append-nil (highFirst 16 check))
-
--- ---- the whole packet
 
 module _ (p out : List ℕ) (short : length p ≤ 21) (room : 236 ≤ length out) {out₁ : List ℕ} (o₁ : out₁ ≡ sets out 0 flag) (s₀ : Sending) (at₀ : s₀ .at ≡ 8) (mask₀ : s₀ .mask ≡ 240) where
   start-is : toCome (s₀ .mask) (frameOf p) ≡ stuffed 4 (frameOf p) ++ flag
   unfolding toCome leftOf trailingZeros
   start-is = rw mask₀ refl
 
-  whole-long : s₀ .at + length (toCome (s₀ .mask) (frameOf p)) ≤ length out₁
-  whole-long =
-      rw (o₁, length-sets)
-      (omega (arith, ap length start-is, length-append (stuffed 4 (frameOf p)) flag, length-flag, length-packet p, packet-short p short))
+  whole-is : s₀ .at + length (toCome (s₀ .mask) (frameOf p)) ≡ length (packetOf p)
+  whole-is = omega (arith, at₀, ap length start-is, length-append (stuffed 4 (frameOf p)) flag, length-flag, length-packet p)
 
-  pub payload-room : s₀ .at + length (toCome (s₀ .mask) (sentBits p)) ≤ length out₁
-  unfolding frameOf toCome
-  payload-room =
-      let c = highFirst 16 (checkOf (sentBits p)) in
-      let k = leftOf (s₀ .mask) in
-      let a = ap length (stuffed-append k (sentBits p) c) ∙ length-append (stuffed k (sentBits p)) (stuffed (leftAfter k (sentBits p)) c) in
-      omega (arith, whole-long, a, length-append (stuffed k (sentBits p ++ c)) flag, length-append (stuffed k (sentBits p)) flag)
+  pub frame-room : s₀ .at + length (toCome (s₀ .mask) (frameOf p)) ≤ length out₁
+  frame-room = rw (o₁, length-sets) (omega (arith, whole-is, packet-short p short))
 
-  module _ {reg : ℕ} {s : Sending} {out₂ : List ℕ} (er : reg ≡ through 0xffff (sentBits p)) (l : Leads (sentBits p) s₀ out₁ s out₂) (long₂ : length out₂ ≡ length out₁) where
-    size-is : s .at + length (toCome (s .mask) (highFirst 16 (0xffff - reg))) ≡ s₀ .at + length (toCome (s₀ .mask) (frameOf p))
-    unfolding frameOf
-    size-is = rw er (l .size (highFirst 16 (checkOf (sentBits p))))
+  module _ {s : Sending} {out₂ : List ℕ} (l : Leads (frameOf p) s₀ out₁ s out₂) (long₂ : length out₂ ≡ length out₁) where
+    pub built-long : s .at + 8 ≡ length (packetOf p)
+    built-long =
+        let z = l .size [] ∙ ap (λ (t : List ℕ). s₀ .at + length (toCome (s₀ .mask) t)) (append-nil (frameOf p)) in
+        omega (arith, z, ap length (toCome-none (s .mask)), length-flag, whole-is)
 
-    pub closing-room : s .at + length (toCome (s .mask) (highFirst 16 (0xffff - reg))) ≤ length out₂
-    closing-room = omega (arith, size-is, whole-long)
+    pub flag-room : s .at + 8 ≤ length out₂
+    flag-room = omega (arith, built-long, whole-is, frame-room)
 
-    pub built-long : {r : ℕ} → r ≡ s .at + length (toCome (s .mask) (highFirst 16 (0xffff - reg))) → r ≡ length (packetOf p)
-    built-long e =
-        omega (arith, e, size-is, at₀, ap length start-is, length-append (stuffed 4 (frameOf p)) flag, length-flag, length-packet p)
-
-    pub built : {out₃ : List ℕ} → out₃ ≡ sets out₂ (s .at) (toCome (s .mask) (highFirst 16 (0xffff - reg))) → out₃ ≡ over (packetOf p) out
-    unfolding frameOf packetOf
+    pub built : {out₃ : List ℕ} → out₃ ≡ sets out₂ (s .at) flag → out₃ ≡ over (packetOf p) out
+    unfolding packetOf
     built {out₃} e =
         let f = stuffed 4 (frameOf p) ++ flag in
         let e8 : 0 + length flag ≡ 8 = omega (arith, length-flag) in
         let head = rw e8 at (sets-append flag f out 0) in
-        let whole = append-assoc flag (stuffed 4 (frameOf p)) flag in
-        e ∙ ap (λ (r : ℕ). sets out₂ (s .at) (toCome (s .mask) (highFirst 16 (0xffff - r)))) er ∙ l .stored (highFirst 16 (checkOf (sentBits p)))
-        ∙ ap (sets out₁ (s₀ .at)) start-is ∙ rw (at₀, o₁) (sym head) ∙ ap (sets out 0) (sym whole)
+        e ∙ ap (sets out₂ (s .at)) (sym (toCome-none (s .mask))) ∙ l .stored []
+        ∙ ap (λ (t : List ℕ). sets out₁ (s₀ .at) (toCome (s₀ .mask) t)) (append-nil (frameOf p))
+        ∙ ap (sets out₁ (s₀ .at)) start-is ∙ rw (at₀, o₁) (sym head) ∙ ap (sets out 0) (sym (append-assoc flag (stuffed 4 (frameOf p)) flag))
         ∙ stored-over (packetOf p) out (omega (arith, packet-short p short))

@@ -1,15 +1,15 @@
-// The packet of a payload: flag, payload and check stuffed, flag. The check goes along with the sending, so that neither waits.
+// The packet of a payload: flag, payload and check stuffed, flag. Promise: it is `packetOf` of the payload (specs/Packet.antt).
 ghost use mathlib.Core.Path.{_≡_};
-ghost use Prim.Native.Nat.{_+_, _≤_};
-ghost use lib.ListN.{length};
+ghost use Prim.Native.Nat.{_+_, _≤_, _<_};
+ghost use lib.ListN.{length, getD, take};
 ghost use lib.Seq.{sets};
 ghost use Rattle.laws.specs.Lists.{over};
 ghost use Rattle.laws.specs.Tables.{byteTable};
-ghost use Rattle.bits.specs.Bits.{turned, highFirst, sentBits};
+ghost use Rattle.bits.specs.Bits.{turned, sentBits};
 ghost use Rattle.packet.specs.Check.{through, entryOf};
 ghost use Rattle.packet.specs.Stuff.{flag, rowOf};
 ghost use Rattle.packet.specs.Sending.{Valid, toCome, Leads};
-ghost use Rattle.packet.specs.Packet.{packetOf};
+ghost use Rattle.packet.specs.Packet.{frameOf, frameBytes, packetOf};
 use crate::check::entries;
 use crate::check::step;
 use crate::stuff::Sending;
@@ -19,9 +19,9 @@ use bits::store_eight;
 use bits::turn::turn;
 use bits::turn::turns;
 
-// Where sending stands after a payload, and the register.
-pub struct Sent {
-    pub place: Sending,
+// A byte of the frame, payload and check, and the register after it.
+pub struct Framed {
+    pub byte: u8,
     pub reg: u16,
 }
 
@@ -32,39 +32,53 @@ fn put_flag(out: &mut [u8], at: usize)
     store_eight(out, at, 0x0001010101010100);
 }
 
-fn send_payload(
+fn frame_byte(turns: &[u8; 256], table: &[u16; 256], payload: &[u8], i: usize, reg: u16) -> Framed
+    requires { ⌜ (now turns ≡ byteTable turned) × (now table ≡ byteTable entryOf) × (i < length (now payload) + 2) × (reg ≡ through 0xffff (sentBits (take i (now payload)))) ⌝ }
+    ensures { λ r. ⌜ (r .byte ≡ getD (frameBytes (now (payload .entry))) i 0) × (r .reg ≡ through 0xffff (sentBits (take (i + 1) (now (payload .entry))))) ⌝ }
+{
+    if i < payload.len() {
+        let b = payload[i];
+        return Framed {
+            byte: b,
+            reg: step(table, reg, turn(turns, b)),
+        };
+    }
+    let check = 0xffff - reg;
+    if i == payload.len() {
+        return Framed {
+            byte: turn(turns, (check / 256) as u8),
+            reg,
+        };
+    }
+    Framed {
+        byte: turn(turns, (check % 256) as u8),
+        reg,
+    }
+}
+
+// Payload and check, in one loop, so that the register goes on while bits are stored.
+fn send_frame(
     turns: &[u8; 256],
     table: &[u16; 256],
     rows: &[u16; 256],
     payload: &[u8],
     out: &mut [u8],
     from: Sending,
-) -> Sent
-    requires { ⌜ (now turns ≡ byteTable turned) × (now table ≡ byteTable entryOf) × (now rows ≡ byteTable rowOf) × Valid (from .mask) × (from .at + length (toCome (from .mask) (sentBits (now payload))) ≤ length (now out)) ⌝ }
-    ensures { λ r. ⌜ (r .reg ≡ through 0xffff (sentBits (now (payload .entry)))) × Leads (sentBits (now (payload .entry))) from (now (out .entry)) (r .place) (now (out .exit)) ⌝ }
+) -> Sending
+    requires { ⌜ (now turns ≡ byteTable turned) × (now table ≡ byteTable entryOf) × (now rows ≡ byteTable rowOf) × Valid (from .mask) × (length (now payload) ≤ 21) × (from .at + length (toCome (from .mask) (frameOf (now payload))) ≤ length (now out)) ⌝ }
+    ensures { λ r. ⌜ Leads (frameOf (now (payload .entry))) from (now (out .entry)) r (now (out .exit)) ⌝ }
 {
+    let n = payload.len() + 2;
     let mut place = from;
     let mut reg: u16 = 0xffff;
     let mut i = 0;
-    while i < payload.len() {
-        let b = payload[i];
-        reg = step(table, reg, turn(turns, b));
-        place = send(rows, b, out, place);
+    while i < n {
+        let x = frame_byte(turns, table, payload, i, reg);
+        reg = x.reg;
+        place = send(rows, x.byte, out, place);
         i += 1;
     }
-    Sent { place, reg }
-}
-
-// The check, its upper byte first, and the closing flag; the place after them.
-fn close(turns: &[u8; 256], rows: &[u16; 256], check: u16, out: &mut [u8], from: Sending) -> usize
-    requires { ⌜ (now turns ≡ byteTable turned) × (now rows ≡ byteTable rowOf) × Valid (from .mask) × (from .at + length (toCome (from .mask) (highFirst 16 check)) ≤ length (now out)) ⌝ }
-    ensures { λ r. ⌜ (r ≡ from .at + length (toCome (from .mask) (highFirst 16 check))) × (now (out .exit) ≡ sets (now (out .entry)) (from .at) (toCome (from .mask) (highFirst 16 check))) ⌝ }
-{
-    let upper = send(rows, turn(turns, (check / 256) as u8), out, from);
-    let lower = send(rows, turn(turns, (check % 256) as u8), out, upper);
-    let at = lower.at;
-    put_flag(out, at);
-    at + 8
+    place
 }
 
 // The packet of a payload of at most 21 bytes, where there is room for it: how many bits.
@@ -76,7 +90,7 @@ pub fn build(payload: &[u8], out: &mut [u8]) -> usize
     let table = entries();
     let marks = rows();
     put_flag(out, 0);
-    let sent = send_payload(
+    let end = send_frame(
         &turned,
         &table,
         &marks,
@@ -84,5 +98,7 @@ pub fn build(payload: &[u8], out: &mut [u8]) -> usize
         out,
         Sending { at: 8, mask: 240 },
     );
-    close(&turned, &marks, 0xffff - sent.reg, out, sent.place)
+    let at = end.at;
+    put_flag(out, at);
+    at + 8
 }
