@@ -6,20 +6,16 @@ use mathlib.Core.List.{List, [], _∷_, _++_}
 use Prim.Native.Nat.{ℕ, zero, suc, _+_, _-_, _*_, _/_, _%_, _^_, _≤_, _<_}
 use native.Mathlib.Nat.{zero-add, suc-add, pow-suc, mul-assoc, mul-comm, div-div-eq-div-mul}
 use native.Mathlib.Omega.{arith}
-use borrow.Author.Tests.{lt-leb, le-leb, leb-true}
+use borrow.Author.Tests.{le-leb, leb-true}
 use lib.Dec.{leb}
 use lib.ListN.{length, getD, take, drop}
-use lib.Seq.{drop-length, take-all}
+use lib.Seq.{take-all}
 use Rattle.laws.specs.Tests.{both}
 use Rattle.laws.proofs.Tests.{both-left, both-right, both-no}
 use Rattle.laws.proofs.Lists.{next}
 use Rattle.bits.specs.Bits.{lowFirst, highFirst, lowValue, allBits}
 
 -- ---- lists of bits
-
-pub allBits-no : (b : ℕ) (bs : List ℕ) → 1 < b → allBits (b ∷ bs) ≡ false
-unfolding allBits
-allBits-no b bs h = ap (λ (t : Bool). both t (allBits bs)) (lt-leb b 1 h)
 
 pub allBits-more : (b : ℕ) (bs : List ℕ) → b ≤ 1 → allBits (b ∷ bs) ≡ allBits bs
 unfolding allBits
@@ -94,11 +90,6 @@ unfolding highFirst
 high-bits zero v = allBits-end
 high-bits (suc n) v = allBits-more (v / 2 ^ n % 2) _ (omega arith) ∙ high-bits n v
 
-pub highFirst-pos : (n v : ℕ) → 0 < n → highFirst n v ≡ v / 2 ^ (n - 1) % 2 ∷ highFirst (n - 1) v
-unfolding highFirst
-highFirst-pos zero v h = absurd (omega arith)
-highFirst-pos (suc n) v h = let e : suc n - 1 ≡ n = omega arith in rw e
-
 pub length-highFirst : (n v : ℕ) → length (highFirst n v) ≡ n
 unfolding highFirst
 length-highFirst zero v = refl
@@ -121,23 +112,6 @@ unfolding highFirst
 high-split v = let u = upper-bits v in let l = lower-bits v in cc
 
 -- ---- the number of bits
-
-pub value-drop : (j : ℕ) (bits : List ℕ) → lowValue (drop j bits) ≤ lowValue bits
-unfolding lowValue
-value-drop zero bits = omega arith
-value-drop (suc j) [] = omega arith
-value-drop (suc j) (b ∷ bs) = omega (arith, value-drop j bs)
-
-pub value-end : (bits : List ℕ) → 0 ≡ lowValue (drop (length bits) bits)
-unfolding lowValue
-value-end bits = rw (drop-length bits)
-
-pub value-turn : (bits : List ℕ) (j : ℕ) → 0 < j → j ≤ length bits → lowValue (drop (j - 1) bits) ≡ lowValue (drop j bits) * 2 + getD bits (j - 1) 0
-unfolding lowValue
-value-turn bits j pos h =
-    let e : j - 1 + 1 ≡ j = omega arith in
-    let n = next bits (j - 1) (omega arith) in
-    rw (n, e) (omega arith)
 
 pub value-bound : (n : ℕ) (bits : List ℕ) → allBits bits ≡ true → lowValue (take n bits) < 2 ^ n
 unfolding lowValue

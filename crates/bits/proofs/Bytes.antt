@@ -1,9 +1,9 @@
 -- Bytes as they are sent, and the bytes that bits make.
 -- Assumes nothing.
 use mathlib.Core.Path.{_≡_, refl, sym, ap, ap₂, _∙_}
-use mathlib.Core.Bool.{Bool, true, false}
+use mathlib.Core.Bool.{Bool, true}
 use mathlib.Core.List.{List, [], _∷_, _++_, append-assoc}
-use Prim.Native.Nat.{ℕ, zero, suc, _+_, _-_, _*_, _/_, _%_, _^_, _≤_, _<_}
+use Prim.Native.Nat.{ℕ, zero, suc, _+_, _-_, _*_, _/_, _%_, _≤_, _<_}
 use native.Mathlib.Omega.{arith}
 use borrow.Author.Tests.{eqb-true}
 use lib.Dec.{T, eqb, ltb, ltb→lt}
@@ -105,11 +105,6 @@ sent-bits (b ∷ bs) = allBits-append (lowFirst 8 b) (sentBits bs) (low-bits 8 b
 
 -- ---- bytes from bits
 
-pub bytesOf-more : (n : ℕ) (bits : List ℕ) → 0 < n → bytesOf n bits ≡ lowValue (take 8 bits) ∷ bytesOf (n - 1) (drop 8 bits)
-unfolding bytesOf
-bytesOf-more zero bits h = absurd (omega arith)
-bytesOf-more (suc n) bits h = let e : suc n - 1 ≡ n = omega arith in rw e
-
 pub length-bytesOf : (n : ℕ) (bits : List ℕ) → length (bytesOf n bits) ≡ n
 unfolding bytesOf
 length-bytesOf zero bits = refl
@@ -124,13 +119,6 @@ unfolding bytesIn bytesOf
 bytesIn-more xs us e =
     let n : length (xs ++ us) / 8 ≡ suc (length us / 8) = omega (arith, length-append xs us) in
     rw (n, take-at xs us 8 e, drop-at xs us 8 e)
-
--- the first of the bytes
-pub bytesOf-take : (n m : ℕ) (bits : List ℕ) → n ≤ m → take n (bytesOf m bits) ≡ bytesOf n bits
-unfolding bytesOf
-bytesOf-take zero m bits h = refl
-bytesOf-take (suc n) zero bits h = absurd (omega arith)
-bytesOf-take (suc n) (suc m) bits h = ap (λ (t : List ℕ). lowValue (take 8 bits) ∷ t) (bytesOf-take n m (drop 8 bits) (omega arith))
 
 -- ---- there and back
 

@@ -9,7 +9,7 @@ use Prim.Native.Nat.{ℕ, zero, suc}
 use native.Mathlib.Omega.{arith}
 use borrow.Author.Tests.{eq-eqb, eqb-true}
 use lib.Dec.{T, eqb}
-use Rattle.laws.specs.Tests.{both, pick, ladder}
+use Rattle.laws.specs.Tests.{both, ladder}
 use Rattle.laws.proofs.Tests.{is-true, both-left, both-right, was-false}
 
 -- every test holds

@@ -1,16 +1,16 @@
 -- Lists as loops go through them, what stores one after the other come to, and the test for equal lists.
 -- Assumes nothing.
 use mathlib.Core.Path.{_≡_, refl, sym, ap, _∙_}
-use mathlib.Core.Bool.{Bool, true, false}
-use mathlib.Core.List.{List, [], _∷_, _++_, append-nil}
+use mathlib.Core.Bool.{Bool, true}
+use mathlib.Core.List.{List, [], _∷_, _++_}
 use Prim.Native.Nat.{ℕ, zero, suc, _+_, _-_, _≤_, _<_}
 use native.Mathlib.Nat.{add-zero, add-suc, suc-add, zero-add}
 use native.Mathlib.Numerals.{add-one}
 use native.Mathlib.Omega.{arith}
-use borrow.Author.Tests.{eq-eqb, ne-eqb, eqb-true}
+use borrow.Author.Tests.{eq-eqb, eqb-true}
 use lib.Dec.{eqb}
 use lib.ListN.{length, getD, take, drop, set, drop-of-length-le, length-drop, take-append-drop}
-use lib.Seq.{drop-cons, set-set, set-comm, sets, sets-eq, take-at, take-all}
+use lib.Seq.{drop-cons, set-set, set-comm, sets, sets-eq}
 use Rattle.laws.specs.Tests.{both}
 use Rattle.laws.specs.Lists.{over, same, AllBytes}
 use Rattle.laws.proofs.Tests.{both-left, both-right}
@@ -24,10 +24,6 @@ next xs i h = rw add-one (drop-cons xs i 0 h)
 -- nothing is left at the end
 pub done : (xs : List ℕ) (i : ℕ) → length xs ≤ i → drop i xs ≡ []
 done xs i h = drop-of-length-le xs h
-
--- a part up to the end is the rest
-pub rest-is : (m : ℕ) (xs : List ℕ) → take (length xs - m) (drop m xs) ≡ drop m xs
-rest-is m xs = take-all (length xs - m) (drop m xs) (omega (arith, length-drop m xs))
 
 -- ---- bytes
 
@@ -86,31 +82,11 @@ pub stored-over : (xs l : List ℕ) → length xs ≤ length l → sets l 0 xs �
 unfolding over
 stored-over xs l h = sets-eq xs l 0 (omega arith) ∙ ap (λ (k : ℕ). xs ++ drop k l) (zero-add (length xs))
 
-pub take-over : (xs l : List ℕ) (n : ℕ) → length xs ≡ n → take n (over xs l) ≡ xs
-unfolding over
-take-over xs l n e = take-at xs (drop (length xs) l) n e
-
-pub take-stored : (xs l : List ℕ) (n : ℕ) → length xs ≡ n → n ≤ length l → take n (sets l 0 xs) ≡ xs
-take-stored xs l n e h = ap (take n) (stored-over xs l (omega arith)) ∙ take-over xs l n e
-
--- as many as there are places
-pub stored-all : (xs l : List ℕ) → length xs ≡ length l → sets l 0 xs ≡ xs
-unfolding over
-stored-all xs l e = stored-over xs l (omega arith) ∙ ap (xs ++_) (done l (length xs) (omega arith)) ∙ append-nil xs
-
 -- ---- equal lists
 
 pub same-more : (x y : ℕ) (xs ys : List ℕ) → x ≡ y → same (x ∷ xs) (y ∷ ys) ≡ same xs ys
 unfolding same
 same-more x y xs ys e = ap (λ (t : Bool). both t (same xs ys)) (eq-eqb x y e)
-
-pub same-no : (x y : ℕ) (xs ys : List ℕ) → (x ≡ y → ⊥) → same (x ∷ xs) (y ∷ ys) ≡ false
-unfolding same
-same-no x y xs ys h = ap (λ (t : Bool). both t (same xs ys)) (ne-eqb x y h)
-
-pub same-end : same [] [] ≡ true
-unfolding same
-same-end = refl
 
 pub same→eq : (xs ys : List ℕ) → same xs ys ≡ true → xs ≡ ys
 unfolding same

@@ -1,8 +1,8 @@
 -- Where a table of the code is, by computation, the list that a function fills, each of its entries is the function of its place. The
 -- comparison of the two lists is the computed test.
 -- Assumes nothing.
-use mathlib.Core.Path.{_≡_, refl, ap, _∙_, sym, subst}
-use mathlib.Core.List.{List, [], _∷_}
+use mathlib.Core.Path.{_≡_, ap, _∙_, sym, subst}
+use mathlib.Core.List.{List}
 use mathlib.Core.Bool.{Bool, true, false}
 use mathlib.Core.Logic.{⊎-elim}
 use lib.Dec.{T}

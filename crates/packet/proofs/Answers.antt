@@ -1,23 +1,18 @@
 -- Which answer the tests on the way lead to.
 -- Assumes nothing.
-use mathlib.Core.Path.{_≡_, refl, sym, ap, _∙_}
+use mathlib.Core.Path.{_≡_}
 use mathlib.Core.Bool.{Bool, true, false}
 use mathlib.Core.List.{List}
-use Prim.Native.Nat.{ℕ, _+_, _-_, _*_, _/_, _%_, _≤_, _<_}
-use native.Mathlib.Omega.{arith}
+use Prim.Native.Nat.{ℕ, _-_, _%_, _≤_, _<_}
 use borrow.Author.Tests.{le-leb, lt-leb, eq-eqb, ne-eqb}
-use lib.Dec.{leb}
 use lib.ListN.{length, take, drop}
-use Rattle.laws.specs.Tests.{both, pick, between, ladder}
 use Rattle.laws.specs.Lists.{same}
 use Rattle.laws.proofs.Tests.{between-yes, between-low, between-high, both-no}
 use Rattle.numbers.specs.declared.Refusal.the-variants.{NotBits, BadLength, NoRoom, NoFlag, BadStuffing, NotWhole, BadCheck}
 use Rattle.bits.specs.Bits.{allBits}
 use Rattle.packet.specs.Stuff.{flag, legal}
-use Rattle.packet.specs.Packet.{packetOf, writeTests, writeAnswer, bodyOf, flagged, frameIn, wholeBytes, checked, frameTests, frameAnswer, bodyTests, bodyAnswer, readTests, readAnswer, payloadLength}
-use Rattle.packet.specs.declared.Written.{Written}
+use Rattle.packet.specs.Packet.{packetOf, writeAnswer, bodyOf, flagged, frameIn, wholeBytes, checked, frameAnswer, bodyAnswer, readAnswer, payloadLength}
 use Rattle.packet.specs.declared.Written.the-variants.{Bits, Refused as NotWritten}
-use Rattle.packet.specs.declared.Received.{Received}
 use Rattle.packet.specs.declared.Received.the-variants.{Bytes, Refused}
 
 -- ---- writing

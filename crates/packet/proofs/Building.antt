@@ -2,27 +2,25 @@
 -- Assumes nothing.
 use mathlib.Core.Path.{_≡_, refl, sym, ap, ap₂, _∙_}
 use mathlib.Core.List.{List, [], _∷_, _++_, append-assoc, append-nil}
-use Prim.Native.Nat.{ℕ, suc, _+_, _-_, _*_, _/_, _%_, _≤_, _<_}
+use Prim.Native.Nat.{ℕ, _+_, _-_, _*_, _/_, _%_, _≤_, _<_}
 use native.Mathlib.Numerals.{add-one}
-use native.Mathlib.Nat.{zero-add}
 use native.Mathlib.Omega.{arith}
 use lib.Count.{trailingZeros}
 use lib.ListN.{length, getD, List·getD-append, take, drop, length-append, length-drop, take-append-drop}
 use lib.Seq.{sets, length-sets, take-suc, take-all, getD-append-add}
 use Rattle.laws.specs.Lists.{over}
 use Rattle.laws.proofs.Lists.{sets-append, stored-over}
-use Rattle.laws.proofs.Loops.{Fold, fold-none, fold-more, fold-end}
 use Rattle.bits.specs.Bits.{lowFirst, highFirst, turned, sentBits, eightOf}
-use Rattle.bits.proofs.Bits.{length-highFirst, length-lowFirst, high-split}
+use Rattle.bits.proofs.Bits.{length-highFirst, high-split}
 use Rattle.bits.proofs.Bytes.{sentBits-more, sentBits-end, sent-append, length-sent, sent-byte, turned-back}
 use Rattle.packet.specs.Check.{through, checkOf}
-use Rattle.packet.specs.Stuff.{flag, stuffed, leftAfter}
+use Rattle.packet.specs.Stuff.{flag, stuffed}
 use Rattle.packet.specs.Sending.{leftOf, Valid, toCome, Leads}
 use Rattle.packet.specs.Packet.{frameOf, frameBytes, packetOf}
 use Rattle.packet.specs.declared.stuff.Sending.{Sending}
 use Rattle.packet.proofs.Register.{through-append, through-end}
-use Rattle.packet.proofs.Stuffing.{stuffed-append, stuffed-bound, stuffed-end}
-use Rattle.packet.proofs.Sending.{toCome-long, leads-on, leads-nowhere, mask-valid}
+use Rattle.packet.proofs.Stuffing.{stuffed-bound, stuffed-end}
+use Rattle.packet.proofs.Sending.{toCome-long, leads-on, leads-nowhere}
 
 pub flag-bits : eightOf 0x0001010101010100 ≡ flag
 unfolding eightOf flag

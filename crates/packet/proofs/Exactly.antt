@@ -1,21 +1,15 @@
 -- "Given exactly when", for each number of writing and reading, and what success says.
 -- Assumes nothing.
-use mathlib.Core.Path.{_≡_, refl, sym, ap, _∙_}
-use mathlib.Core.Bool.{Bool, true, false}
-use mathlib.Core.Logic.{_↔_}
-use mathlib.Core.List.{List, [], _∷_}
+use mathlib.Core.Path.{refl}
+use mathlib.Core.List.{List}
 use Prim.Native.Nat.{ℕ}
 use native.Mathlib.Omega.{arith}
-use lib.Dec.{leb}
 use lib.ListN.{length}
-use Rattle.laws.specs.Tests.{between, ladder}
 use Rattle.laws.proofs.Ladder.{exactly, passed}
-use Rattle.bits.specs.Bits.{allBits}
-use Rattle.packet.specs.Stuff.{legal}
-use Rattle.packet.specs.Packet.{packetOf, writtenNumber, receivedNumber, writeTests, writeAnswer, bodyOf, flagged, frameIn, wholeBytes, checked, frameTests, bodyTests, readTests, readAnswer, payloadLength}
+use Rattle.packet.specs.Packet.{packetOf, writtenNumber, receivedNumber, writeTests, writeAnswer, bodyOf, frameIn, readTests, readAnswer, payloadLength}
 use Rattle.packet.specs.Promises.{WriteExactly, ReadExactly}
-use Rattle.packet.specs.declared.Written.the-variants.{Bits, Refused as NotWritten}
-use Rattle.packet.specs.declared.Received.the-variants.{Bytes, Refused}
+use Rattle.packet.specs.declared.Written.the-variants.{Bits}
+use Rattle.packet.specs.declared.Received.the-variants.{Bytes}
 
 pub write-exactly : (p : List ℕ) (room : ℕ) → WriteExactly p room
 unfolding writeAnswer

@@ -2,7 +2,7 @@
 -- its lower byte moved up. This rests on the register's step being linear in exclusive or.
 -- Assumes nothing.
 use mathlib.Core.Path.{_≡_, refl, sym, ap, ap₂, _∙_}
-use mathlib.Core.Bool.{Bool, true, false}
+use mathlib.Core.Bool.{Bool, true}
 use mathlib.Core.List.{List, [], _∷_, _++_}
 use Prim.Native.Nat.{ℕ, zero, suc, _*_, _/_, _%_, _^_, _≤_, _<_}
 use native.Mathlib.Omega.{arith}
@@ -13,9 +13,8 @@ use borrow.Author.Tests.{eq-eqb, ne-eqb, eqb-true}
 use Rattle.laws.proofs.Tests.{is-true}
 use Rattle.laws.proofs.Table.{allBelow, below}
 use Rattle.laws.proofs.Xor.{xor, xor-16, xor-8, comm, zero-r, self, assoc, swap, double, parts, block}
-use Rattle.bits.specs.Bits.{allBits, highFirst, lowFirst, turned, sentBits}
+use Rattle.bits.specs.Bits.{allBits, highFirst}
 use Rattle.bits.proofs.Bits.{bit-head, bit-tail, high-bits, length-highFirst}
-use Rattle.bits.proofs.Bytes.{sent-byte, sentBits-more}
 use Rattle.packet.specs.Check.{stepped, through, entryOf}
 
 top : (a c : ℕ) → xor a c / 32768 ≡ xor (a / 32768) (c / 32768)
@@ -184,7 +183,3 @@ unfolding xor
 byte-step r t hr ht =
     let m : r * 256 % 65536 ≡ r % 256 * 256 = omega arith in
     ap (λ (x : ℕ). bitXor x (entryOf (bitXor (r / 256) t))) m ∙ sym (byte-in r t hr ht)
-
-pub byte-turn : (r r′ b : ℕ) (bs : List ℕ) → b < 256 → r′ ≡ through r (highFirst 8 (turned b)) → through r (sentBits (b ∷ bs)) ≡ through r′ (sentBits bs)
-byte-turn r r′ b bs h e =
-    ap (through r) (sentBits-more b bs) ∙ through-append (lowFirst 8 b) (sentBits bs) r ∙ ap (λ (x : ℕ). through x (sentBits bs)) (sym (e ∙ ap (through r) (sent-byte b h)))

@@ -1,11 +1,11 @@
 -- Reading what was written gives the payload back, and what reading accepts is what writing makes of its payload.
 -- Assumes nothing.
 use mathlib.Core.Path.{_≡_, refl, sym, ap, ap₂, _∙_}
-use mathlib.Core.Bool.{Bool, true, false}
+use mathlib.Core.Bool.{true}
 use mathlib.Core.List.{List, [], _∷_, _++_, append-assoc, append-nil}
-use Prim.Native.Nat.{ℕ, zero, suc, _+_, _-_, _*_, _/_, _%_, _≤_, _<_}
+use Prim.Native.Nat.{ℕ, zero, suc, _+_, _-_, _*_, _%_, _≤_}
 use native.Mathlib.Omega.{arith}
-use lib.Dec.{leb, eqb}
+use lib.Dec.{eqb}
 use borrow.Author.Tests.{leb-true, eqb-true}
 use lib.ListN.{length, take, drop, length-append, take-append-drop}
 use lib.Seq.{take-at, drop-at, drop-drop}
@@ -18,8 +18,8 @@ use Rattle.bits.specs.Bits.{allBits, highFirst, sentBits, bytesOf}
 use Rattle.bits.proofs.Bits.{allBits-more, allBits-append, allBits-take, allBits-drop, bit-head, bit-tail, high-bits}
 use Rattle.bits.proofs.Bytes.{sent-bits, length-sent, length-bytesOf, bytes-back, sent-back}
 use Rattle.packet.specs.Check.{checkOf}
-use Rattle.packet.specs.Stuff.{flag, stuffed, leftAfter, legal, unstuffed}
-use Rattle.packet.specs.Packet.{frameOf, packetOf, writtenNumber, writeAnswer, writeOut, Writes, receivedNumber, bodyOf, flagged, frameIn, wholeBytes, checked, payloadLength, frameAnswer, bodyAnswer, readAnswer, readOut, Reads}
+use Rattle.packet.specs.Stuff.{flag, stuffed, legal, unstuffed}
+use Rattle.packet.specs.Packet.{frameOf, packetOf, writtenNumber, writeAnswer, writeOut, receivedNumber, bodyOf, flagged, frameIn, wholeBytes, checked, payloadLength, frameAnswer, bodyAnswer, readAnswer, readOut}
 use Rattle.packet.specs.Promises.{ReadAfterWrite, WriteAfterRead, WriteOnce, ReadOnce}
 use Rattle.packet.specs.declared.Written.the-variants.{Bits}
 use Rattle.packet.specs.declared.Received.the-variants.{Bytes}

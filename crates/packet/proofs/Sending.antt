@@ -1,16 +1,16 @@
 -- Sending one byte: that the code's arithmetic stuffs it, by a test at each byte and each number of ones that may come.
 -- Assumes nothing.
 use mathlib.Core.Path.{_≡_, refl, sym, ap, ap₂, _∙_}
-use mathlib.Core.Bool.{Bool, true, false}
-use mathlib.Core.List.{List, [], _∷_, _++_, append-assoc}
+use mathlib.Core.Bool.{Bool, true}
+use mathlib.Core.List.{List, [], _++_, append-assoc}
 use Prim.Native.Nat.{ℕ, zero, suc, _+_, _-_, _*_, _/_, _%_, _^_, _≤_, _<_}
 use native.Mathlib.Omega.{arith}
 use borrow.Author.Tests.{eqb-true, eq-eqb, ne-eqb}
-use lib.Bits.{bitAnd, bitXor, xor-lt, and-le-r}
+use lib.Bits.{bitAnd, xor-lt, and-le-r}
 use lib.Count.{trailingZeros}
-use lib.Dec.{T, eqb, leb}
-use lib.ListN.{length, take, drop, set, length-append, length-drop, take-append-drop}
-use lib.Seq.{sets, length-take-le}
+use lib.Dec.{T, eqb}
+use lib.ListN.{length, take, length-append}
+use lib.Seq.{sets}
 use Rattle.laws.specs.Tests.{both, pick}
 use Rattle.laws.specs.Lists.{same}
 use Rattle.laws.proofs.Tests.{is-true, both-left, both-right}

@@ -1,63 +1,14 @@
 -- One turn of stuffing and unstuffing, by the tests that the code makes.
 -- Assumes nothing.
-use mathlib.Core.Path.{_≡_, refl, sym, ap, _∙_}
-use mathlib.Core.Bool.{Bool, true, false}
+use mathlib.Core.Path.{_≡_, refl, ap, _∙_}
+use mathlib.Core.Bool.{true}
 use mathlib.Core.List.{List, [], _∷_, _++_}
-use Prim.Native.Nat.{ℕ, zero, suc, _+_, _-_, _*_, _≤_, _<_}
-use native.Mathlib.Nat.{suc-sub-suc, sub-zero}
+use Prim.Native.Nat.{ℕ, zero, suc, _+_, _-_, _*_, _≤_}
 use native.Mathlib.Omega.{arith}
-use lib.Dec.{ltb, leb·suc-suc, leb·zero}
 use lib.ListN.{length}
-use Rattle.bits.specs.Bits.{allBits, highFirst}
+use Rattle.bits.specs.Bits.{allBits}
 use Rattle.bits.proofs.Bits.{bit-head, bit-tail, allBits-more}
 use Rattle.packet.specs.Stuff.{stuffed, leftAfter, legal, unstuffed}
-
-suc-one : (k : ℕ) → suc k - 1 ≡ k
-suc-one k = omega arith
-
-pub stuffed-0 : (k b : ℕ) (bs : List ℕ) → b ≡ 0 → stuffed k (b ∷ bs) ≡ b ∷ stuffed 4 bs
-unfolding stuffed
-stuffed-0 k zero bs e = refl
-stuffed-0 k (suc b) bs e = absurd (omega arith)
-
-pub stuffed-last : (k b : ℕ) (bs : List ℕ) → (b ≡ 0 → ⊥) → k ≡ 0 → stuffed k (b ∷ bs) ≡ b ∷ 0 ∷ stuffed 4 bs
-unfolding stuffed
-stuffed-last zero zero bs h e = absurd (h refl)
-stuffed-last zero (suc b) bs h e = refl
-stuffed-last (suc k) b bs h e = absurd (omega arith)
-
-pub stuffed-more : (k b : ℕ) (bs : List ℕ) → (b ≡ 0 → ⊥) → (k ≡ 0 → ⊥) → stuffed k (b ∷ bs) ≡ b ∷ stuffed (k - 1) bs
-unfolding stuffed
-stuffed-more zero b bs h e = absurd (e refl)
-stuffed-more (suc k) zero bs h e = absurd (h refl)
-stuffed-more (suc k) (suc b) bs h e = rw suc-one
-
-pub leftAfter-0 : (k b : ℕ) (bs : List ℕ) → b ≡ 0 → leftAfter k (b ∷ bs) ≡ leftAfter 4 bs
-unfolding leftAfter
-leftAfter-0 k zero bs e = refl
-leftAfter-0 k (suc b) bs e = absurd (omega arith)
-
-pub leftAfter-last : (k b : ℕ) (bs : List ℕ) → (b ≡ 0 → ⊥) → k ≡ 0 → leftAfter k (b ∷ bs) ≡ leftAfter 4 bs
-unfolding leftAfter
-leftAfter-last zero zero bs h e = absurd (h refl)
-leftAfter-last zero (suc b) bs h e = refl
-leftAfter-last (suc k) b bs h e = absurd (omega arith)
-
-pub leftAfter-more : (k b : ℕ) (bs : List ℕ) → (b ≡ 0 → ⊥) → (k ≡ 0 → ⊥) → leftAfter k (b ∷ bs) ≡ leftAfter (k - 1) bs
-unfolding leftAfter
-leftAfter-more zero b bs h e = absurd (e refl)
-leftAfter-more (suc k) zero bs h e = absurd (h refl)
-leftAfter-more (suc k) (suc b) bs h e = rw suc-one
-
-pub leftAfter-end : (k : ℕ) → leftAfter k [] ≡ k
-unfolding leftAfter
-leftAfter-end k = refl
-
-pub stuffed-some : (k b : ℕ) (bs : List ℕ) → 0 < length (stuffed k (b ∷ bs))
-unfolding stuffed
-stuffed-some k zero bs = omega arith
-stuffed-some zero (suc b) bs = omega arith
-stuffed-some (suc k) (suc b) bs = omega arith
 
 pub stuffed-end : (k : ℕ) → stuffed k [] ≡ []
 unfolding stuffed
@@ -79,14 +30,6 @@ stuffed-least k (zero ∷ bs) = omega (arith, stuffed-least 4 bs)
 stuffed-least zero (suc b ∷ bs) = omega (arith, stuffed-least 4 bs)
 stuffed-least (suc k) (suc b ∷ bs) = omega (arith, stuffed-least k bs)
 
-pub unstuffed-bound : (k : ℕ) (xs : List ℕ) → length (unstuffed k xs) ≤ length xs
-unfolding unstuffed
-unstuffed-bound zero [] = omega arith
-unstuffed-bound (suc k) [] = omega arith
-unstuffed-bound zero (x ∷ xs) = omega (arith, unstuffed-bound 5 xs)
-unstuffed-bound (suc k) (zero ∷ xs) = omega (arith, unstuffed-bound 5 xs)
-unstuffed-bound (suc k) (suc x ∷ xs) = omega (arith, unstuffed-bound k xs)
-
 pub unstuffed-bits : (k : ℕ) (xs : List ℕ) → allBits xs ≡ true → allBits (unstuffed k xs) ≡ true
 unfolding unstuffed
 unstuffed-bits zero [] e = e
@@ -103,13 +46,6 @@ stuffed-append k [] ys = refl
 stuffed-append k (zero ∷ xs) ys = ap (λ (t : List ℕ). 0 ∷ t) (stuffed-append 4 xs ys)
 stuffed-append zero (suc x ∷ xs) ys = ap (λ (t : List ℕ). suc x ∷ 0 ∷ t) (stuffed-append 4 xs ys)
 stuffed-append (suc k) (suc x ∷ xs) ys = ap (λ (t : List ℕ). suc x ∷ t) (stuffed-append k xs ys)
-
-pub leftAfter-append : (k : ℕ) (xs ys : List ℕ) → leftAfter k (xs ++ ys) ≡ leftAfter (leftAfter k xs) ys
-unfolding leftAfter
-leftAfter-append k [] ys = refl
-leftAfter-append k (zero ∷ xs) ys = leftAfter-append 4 xs ys
-leftAfter-append zero (suc x ∷ xs) ys = leftAfter-append 4 xs ys
-leftAfter-append (suc k) (suc x ∷ xs) ys = leftAfter-append k xs ys
 
 pub leftAfter-bound : (k : ℕ) (xs : List ℕ) → k ≤ 4 → leftAfter k xs ≤ 4
 unfolding leftAfter

@@ -6,10 +6,9 @@ use mathlib.Core.List.{List, [], _∷_, _++_, append-assoc, append-nil}
 use Prim.Native.Nat.{ℕ, zero, suc, _+_, _-_, _*_, _/_, _%_, _^_, _≤_, _<_}
 use native.Mathlib.Nat.{zero-add, suc-add}
 use native.Mathlib.Omega.{arith}
-use borrow.Author.Tests.{eqb-true}
 use lib.Dec.{T, eqb, ltb, ltb→lt, leb·suc-suc, leb·zero}
-use lib.ListN.{length, take, drop, length-append, length-drop, length-take, take-append-drop}
-use lib.Seq.{sets, drop-at, drop-drop, take-add, take-all, length-take-le}
+use lib.ListN.{length, take, drop, length-append, length-drop}
+use lib.Seq.{sets, drop-at, drop-drop, take-add, length-take-le}
 use Rattle.laws.specs.Tests.{both, pick}
 use Rattle.laws.specs.Lists.{same}
 use Rattle.laws.proofs.Tests.{is-true, of-true, both-left, both-right}
@@ -20,9 +19,9 @@ use Rattle.bits.proofs.Bits.{allBits-take, allBits-drop, bits-back, length-lowF
 use Rattle.bits.proofs.Bytes.{bytesIn-none, bytesIn-more}
 use Rattle.packet.specs.Stuff.{legal, unstuffed}
 use Rattle.packet.specs.Packet.{bodyOf}
-use Rattle.packet.specs.Taking.{zeros, leftIn, clean, leftBy, Sound, pending, lawful, Going, Took, Unstuffed}
+use Rattle.packet.specs.Taking.{zeros, leftIn, leftBy, pending, lawful, Took, Unstuffed}
 use Rattle.packet.specs.declared.unstuff.Taking.{Taking}
-use Rattle.packet.proofs.Takings.{unstuffed-append, legal-append, took-more}
+use Rattle.packet.proofs.Takings.{took-more}
 
 -- ---- the bits that are over, behind zeros
 

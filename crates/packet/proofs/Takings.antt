@@ -15,7 +15,7 @@ use Rattle.bits.proofs.Bits.{length-lowFirst, low-append, low-split, value-eigh
 use Rattle.bits.proofs.Bytes.{sent-byte, sent-append, sentBits-more, sentBits-end, bytesIn-more}
 use Rattle.packet.specs.Check.{through}
 use Rattle.packet.specs.Stuff.{legal, unstuffed}
-use Rattle.packet.specs.Taking.{leftIn, clean, leftBy, Unstuffs, Sound, pending, lawful, Going, Took}
+use Rattle.packet.specs.Taking.{leftIn, clean, leftBy, Unstuffs, Sound, pending, lawful, Took}
 use Rattle.packet.specs.declared.unstuff.Taking.{Taking}
 use Rattle.packet.proofs.Register.{through-append}
 

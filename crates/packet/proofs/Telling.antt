@@ -3,18 +3,18 @@
 use mathlib.Core.Path.{_≡_, refl, sym, ap, ap₂, _∙_}
 use mathlib.Core.Bool.{Bool, true, false}
 use mathlib.Core.List.{List, [], _∷_, _++_, append-nil}
-use Prim.Native.Nat.{ℕ, zero, suc, _+_, _-_, _*_, _/_, _%_, _^_, _≤_, _<_}
+use Prim.Native.Nat.{ℕ, _+_, _-_, _*_, _/_, _%_, _≤_, _<_}
 use native.Mathlib.Omega.{arith}
-use borrow.Author.Tests.{eq-eqb, ne-eqb, eqb-true}
+use borrow.Author.Tests.{eq-eqb, eqb-true}
 use lib.Dec.{eqb}
-use lib.ListN.{length, getD, take, drop, take-append-drop, length-append, length-drop}
+use lib.ListN.{length, getD, take, drop, take-append-drop, length-drop}
 use lib.Seq.{take-at, drop-at, take-all, length-take-le}
 use Rattle.laws.specs.Lists.{over, same}
 use Rattle.laws.proofs.Lists.{next, done, all-bytes, take-bytes, same→eq, same-refl}
 use Rattle.bits.specs.Bits.{lowFirst, highFirst, lowValue, turned, allBits, sentBits, bytesOf}
 use Rattle.bits.proofs.Bits.{allBits-take, allBits-drop, bits-back, high-split}
 use Rattle.bits.proofs.Bytes.{sent-byte, turned-8, high-same, sentBits-more, sentBits-end, sent-append, length-sent, bytes-back}
-use Rattle.packet.specs.Check.{through, checkOf}
+use Rattle.packet.specs.Check.{checkOf}
 use Rattle.packet.specs.Stuff.{flag}
 use Rattle.packet.specs.Packet.{wholeBytes, checked, payloadLength}
 use Rattle.packet.proofs.Answers.{whole}

@@ -1,16 +1,14 @@
 -- What `unpack` finds once all bits between the flags are taken.
 -- Assumes nothing.
-use mathlib.Core.Path.{_≡_, refl, sym, ap, _∙_}
-use mathlib.Core.Bool.{Bool, true, false}
+use mathlib.Core.Path.{_≡_, sym, ap, _∙_}
+use mathlib.Core.Bool.{true, false}
 use mathlib.Core.List.{List, _∷_, _++_}
-use Prim.Native.Nat.{ℕ, suc, _+_, _-_, _*_, _/_, _%_, _≤_, _<_}
+use Prim.Native.Nat.{ℕ, suc, _+_, _-_, _*_, _/_, _≤_, _<_}
 use native.Mathlib.Omega.{arith}
 use borrow.Author.Tests.{eq-eqb, ne-eqb}
-use lib.Dec.{eqb}
-use lib.ListN.{length, take, drop, length-drop}
-use lib.Seq.{sets, take-at, take-take, take-all, length-sets, length-take-le}
+use lib.ListN.{length, take, drop}
+use lib.Seq.{take-at, take-take, take-all, length-sets}
 use Rattle.laws.specs.Lists.{over}
-use Rattle.laws.specs.Tests.{pick}
 use Rattle.laws.proofs.Lists.{stored-over}
 use Rattle.numbers.specs.declared.Refusal.the-variants.{BadStuffing, NotWhole}
 use Rattle.bits.specs.Bits.{allBits, sentBits, bytesOf, bytesIn}
@@ -56,9 +54,6 @@ module _ {body empty raw : List ℕ} {s : Taking} (u : Unstuffed body empty s ra
         many-bad h = not-whole (count-bad _ (count-high (unstuffed 5 body) (omega (arith, frame-8))))
 
         module _ (fits : s .count ≤ length empty) (bits : allBits body ≡ true) where
-          pub raw-long : s .count ≤ length raw
-          raw-long = rw (u .stored clean, length-sets) fits
-
           F : List ℕ
           F = unstuffed 5 body
 

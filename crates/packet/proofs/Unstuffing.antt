@@ -2,22 +2,20 @@
 -- Assumes nothing.
 use mathlib.Core.Path.{_≡_, refl, sym, ap, ap₂, _∙_}
 use mathlib.Core.Bool.{Bool, true, false, not}
-use mathlib.Core.List.{List, [], _∷_, _++_}
-use Prim.Native.Nat.{ℕ, zero, suc, _+_, _-_, _*_, _/_, _%_, _^_, _≤_, _<_}
+use Prim.Native.Nat.{ℕ, _+_, _-_, _/_, _^_, _≤_, _<_}
 use native.Mathlib.Omega.{arith}
 use borrow.Author.Tests.{eqb-true, eq-eqb, ne-eqb, ltb-true}
 use lib.Bits.{bitAnd, and-le-l}
 use lib.Dec.{T, eqb, ltb}
-use lib.ListN.{length}
 use Rattle.laws.specs.Tests.{both, pick}
 use Rattle.laws.specs.Lists.{same}
 use Rattle.laws.proofs.Tests.{is-true, both-left, both-right}
 use Rattle.laws.proofs.Lists.{same→eq}
 use Rattle.laws.proofs.Table.{allBelow, below}
 use Rattle.bits.specs.Bits.{lowFirst}
-use Rattle.packet.specs.Stuff.{legal, unstuffed}
+use Rattle.packet.specs.Stuff.{unstuffed}
 use Rattle.packet.specs.Sending.{aboveOf}
-use Rattle.packet.specs.Taking.{leftIn, clean, leftBy, putIn, More, Unstuffs}
+use Rattle.packet.specs.Taking.{leftIn, clean, leftBy, putIn, Unstuffs}
 
 module _ (tail v : ℕ) where
   once-bits : ℕ

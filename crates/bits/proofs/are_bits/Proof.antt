@@ -1,7 +1,6 @@
 use Prim.Native.Nat.{_-_}
-use mathlib.Core.Path.{_≡_, refl, sym, _∙_}
+use mathlib.Core.Path.{sym, _∙_}
 use borrow.Author.Needs.{needs}
-use native.Mathlib.Omega.{arith}
 use lib.ListN.{length}
 use Rattle.laws.proofs.Loops.{Fold, fold-none, fold-more, fold-end}
 use Rattle.bits.proofs.Bits.{upTo, upTo-larger, upTo-same, upTo-end}

@@ -75,7 +75,7 @@ slice-write-out-8 : tie.Need-slice-write-out-8
 slice-write-out-8 c = simp length-set (omega arith)
 
 same-length : tie.Need-same-length
-same-length c = search needs
+same-length c = simp length-set
 
 returns : tie.Need-returns
 returns c = eight-stores (c .args .out .now) (c .args .at) (c .args .z)

@@ -1,9 +1,7 @@
 use mathlib.Core.Path.{sym, _∙_}
 use native.Mathlib.Omega.{arith}
 use Rattle.packet.proofs.RoundTrip.{received-few}
-use Prim.Native.Nat.{ℕ}
 use mathlib.Core.Path.{refl}
-use mathlib.Core.List.{List}
 use Rattle.packet.specs.Packet.{receivedNumber, readOut, bodyOf, frameIn}
 use Rattle.packet.specs.declared.Received.{Received}
 use Rattle.board.specs.Face.{receivedCount}

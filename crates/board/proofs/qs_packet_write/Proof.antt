@@ -1,9 +1,7 @@
 use mathlib.Core.Path.{sym, _∙_}
 use native.Mathlib.Omega.{arith}
 use Rattle.packet.proofs.RoundTrip.{written-few}
-use Prim.Native.Nat.{ℕ}
 use mathlib.Core.Path.{refl}
-use mathlib.Core.List.{List}
 use Rattle.packet.specs.Packet.{writtenNumber, writeOut}
 use Rattle.packet.specs.declared.Written.{Written}
 use Rattle.board.specs.Face.{writtenCount}

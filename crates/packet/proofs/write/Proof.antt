@@ -1,10 +1,6 @@
-use Prim.Native.Nat.{ℕ, _+_, _-_, _*_, _/_, _≤_, _<_}
-use mathlib.Core.Path.{_≡_, refl, sym, ap, _∙_}
-use mathlib.Core.Bool.{true, false}
+use Prim.Native.Nat.{_-_}
+use mathlib.Core.Path.{refl, ap, _∙_}
 use borrow.Author.Needs.{needs}
-use native.Mathlib.Omega.{arith}
-use lib.ListN.{length, take, drop}
-use lib.Seq.{length-take-le}
 use Rattle.packet.specs.Packet.{writeOut}
 use Rattle.packet.specs.declared.Written.the-variants.{Bits}
 use Rattle.packet.proofs.Answers.{write-low, write-high, write-room, write-good}

@@ -1,4 +1,3 @@
-use native.Mathlib.Omega.{arith}
 use Rattle.packet.proofs.Taken.{first-fits, first-is}
 use borrow.Author.Needs.{needs}
 use Rattle.packet.proofs.reading.first_byte.Statement.{statement}

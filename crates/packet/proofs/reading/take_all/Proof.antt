@@ -1,7 +1,6 @@
 use Prim.Native.Nat.{_+_, _-_, _%_, _≤_}
-use mathlib.Core.Path.{_≡_, refl, sym, ap, _∙_}
+use mathlib.Core.Path.{_≡_, refl}
 use native.Mathlib.Omega.{arith}
-use borrow.Author.Needs.{needs}
 use lib.ListN.{length, take}
 use lib.Seq.{take-all, length-take-le}
 use Rattle.packet.specs.Taking.{Took}

@@ -1,5 +1,5 @@
-use Prim.Native.Nat.{_≤_, _-_}
-use mathlib.Core.Path.{_≡_, refl, sym, _∙_}
+use Prim.Native.Nat.{_-_}
+use mathlib.Core.Path.{_≡_, refl, _∙_}
 use native.Mathlib.Omega.{arith}
 use lib.ListN.{length, drop}
 use Rattle.bits.specs.Bits.{allBits}
@@ -7,7 +7,7 @@ use Rattle.bits.proofs.Bits.{allBits-take, allBits-drop}
 use mathlib.Core.Bool.{true}
 use Rattle.packet.specs.Packet.{readOut, bodyOf}
 use Rattle.packet.proofs.Answers.{stuffing-good}
-use Rattle.packet.proofs.Unpacking.{spoilt-bad, end-bad, over-bad, few-bad, many-bad, body-legal, raw-long, frame-sent, frame-long, frame-reg}
+use Rattle.packet.proofs.Unpacking.{spoilt-bad, end-bad, over-bad, few-bad, many-bad, body-legal, frame-sent, frame-long, frame-reg}
 use borrow.Author.Needs.{needs}
 use Rattle.packet.proofs.reading.unpack.Statement.{statement}
 use Rattle.packet.proofs.reading.unpack.Tie as tie

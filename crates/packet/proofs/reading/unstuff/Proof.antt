@@ -1,8 +1,7 @@
 use mathlib.Core.Path.{_≡_, refl, sym, ap, _∙_}
-use Prim.Native.Nat.{_+_, _-_, _*_, _%_, _≤_}
+use Prim.Native.Nat.{_+_, _-_, _%_}
 use native.Mathlib.Omega.{arith}
 use lib.ListN.{length, take, drop, length-take, length-drop}
-use Rattle.bits.specs.Bits.{lowFirst, sentBits}
 use Rattle.bits.proofs.Bits.{allBits-take, allBits-drop, length-lowFirst}
 use Rattle.bits.proofs.Bytes.{sentBits-end}
 use Rattle.packet.specs.Check.{through}

@@ -1,11 +1,10 @@
-use mathlib.Core.Path.{_≡_, refl, sym, ap, _∙_}
+use mathlib.Core.Path.{_≡_, refl, ap, _∙_}
 use Prim.Native.Nat.{ℕ, _*_, _/_, _<_}
 use native.Mathlib.Omega.{arith}
 use lib.Bits.{bitAnd, and-le-l, and-le-r}
 use lib.ListN.{getD}
 use Rattle.laws.proofs.Table.{byte-entry}
 use Rattle.packet.specs.Stuff.{rowOf}
-use Rattle.packet.specs.Sending.{aboveOf}
 use Rattle.packet.proofs.Sending.{mask-byte, above-byte, stuffs-once}
 use borrow.Author.Needs.{needs}
 use Rattle.packet.proofs.stuff.stuff_byte.Statement.{statement}

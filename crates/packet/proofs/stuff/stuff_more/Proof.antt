@@ -1,11 +1,11 @@
-use mathlib.Core.Path.{_≡_, refl, sym, ap, _∙_}
+use mathlib.Core.Path.{refl, sym, ap, _∙_}
 use mathlib.Core.Bool.{Bool}
 use Prim.Native.Nat.{ℕ, _+_, _*_, _<_}
 use native.Mathlib.Omega.{arith}
 use borrow.Author.Tests.{eq-eqb, ne-eqb}
 use lib.Bits.{bitAnd, and-le-l}
 use Rattle.laws.specs.Tests.{pick}
-use Rattle.packet.specs.Sending.{aboveOf, afterOnes}
+use Rattle.packet.specs.Sending.{afterOnes}
 use Rattle.packet.proofs.Sending.{above-byte, twice-byte, stuffs-twice}
 use borrow.Author.Needs.{needs}
 use Rattle.packet.proofs.stuff.stuff_more.Statement.{statement}

@@ -1,6 +1,5 @@
 use Prim.Native.Nat.{_+_, _-_}
 use native.Mathlib.Omega.{arith}
-use borrow.Author.Needs.{needs}
 use lib.ListN.{length}
 use Rattle.packet.proofs.Building.{Underway, underway-start, underway-room, underway-turn, underway-end}
 use Rattle.packet.proofs.writing.send_frame.Statement.{statement}
