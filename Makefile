@@ -30,13 +30,13 @@ PROGRAMS := build/example build/test_packet build/test_packet_sanitized build/co
 # the payload of the first packet of vectors/packets.txt
 PAYLOAD := $(shell sed -n '/^[^\#]/{s/ :.*//p;q;}' vectors/packets.txt)
 
-.PHONY: run test bench tools programs compare-packets example-packets clean
+.PHONY: run test bench tools programs clean
 
 run: tools build/example
 	@$(X86_RUN) build/example $(PAYLOAD)
 
 test: tools
-	@tests/run
+	@X86_RUN="$(X86_RUN)" tests/run
 
 bench: tools build/bench_packet
 	@$(X86_RUN) build/bench_packet "$(WHERE)"
@@ -46,13 +46,6 @@ tools:
 	@tests/tools $(MACHINE)
 
 programs: $(PROGRAMS)
-
-compare-packets: build/compare_packet
-	@$(X86_RUN) build/compare_packet vectors
-
-# every payload of the vectors through the example, and the number of bits that each packet should have
-example-packets: build/example
-	@tests/example vectors/packets.txt $(X86_RUN) build/example
 
 $(BOARD): crates.txt $(shell find crates -name '*.rt' -o -name '*.antt')
 	rt staticlib board
