@@ -15,32 +15,32 @@ use Rattle.laws.specs.Lists.{same}
 use Rattle.laws.proofs.Tests.{is-true, of-true, both-left, both-right}
 use Rattle.laws.proofs.Lists.{same→eq}
 use Rattle.laws.proofs.Table.{allBelow, below}
-use Rattle.bits.specs.Bits.{lowFirst, lowValue, allBits, eightOf, fourOf}
+use Rattle.bits.specs.Bits.{lowFirst, highFirst, lowValue, allBits, eightOf, fourOf}
 use Rattle.bits.proofs.Bits.{bit-at, allBits-take, allBits-drop, bits-back, value-bound}
 
 -- as the code computes it
 pub spreading : ℕ → ℕ
-spreading b = bitAnd (b % 128 * 0x0002040810204081) 0x0101010101010101 + b / 128 * 2 ^ 56 % 2 ^ 64
+spreading t = bitAnd (t * 0x0040201008040201 / 128) 0x0001010101010101 + t % 2 * 2 ^ 56 % 2 ^ 64
 
 spreads-well : ℕ → Bool
-unfolding spreading same lowFirst eightOf
-spreads-well b = both (ltb (spreading b) (2 ^ 64)) (same (eightOf (spreading b)) (lowFirst 8 b))
+unfolding spreading same highFirst eightOf
+spreads-well t = both (ltb (spreading t) (2 ^ 64)) (same (eightOf (spreading t)) (highFirst 8 t))
 
 all-spread-well : T (allBelow spreads-well 256)
 unfolding spreads-well
 all-spread-well = tt
 
-well : (b : ℕ) → b < 256 → both (ltb (spreading b) (2 ^ 64)) (same (eightOf (spreading b)) (lowFirst 8 b)) ≡ true
+well : (t : ℕ) → t < 256 → both (ltb (spreading t) (2 ^ 64)) (same (eightOf (spreading t)) (highFirst 8 t)) ≡ true
 unfolding spreads-well
-well b h = is-true {b = spreads-well b} (below spreads-well 256 all-spread-well b h)
+well t h = is-true {b = spreads-well t} (below spreads-well 256 all-spread-well t h)
 
-pub spread-fits : (b : ℕ) → b < 256 → bitAnd (b % 128 * 0x0002040810204081) 0x0101010101010101 + b / 128 * 2 ^ 56 % 2 ^ 64 < 2 ^ 64
+pub spread-fits : (t : ℕ) → t < 256 → bitAnd (t * 0x0040201008040201 / 128) 0x0001010101010101 + t % 2 * 2 ^ 56 % 2 ^ 64 < 2 ^ 64
 unfolding spreading
-spread-fits b h = ltb→lt (spreading b) (2 ^ 64) (of-true (both-left (ltb (spreading b) (2 ^ 64)) (same (eightOf (spreading b)) (lowFirst 8 b)) (well b h)))
+spread-fits t h = ltb→lt (spreading t) (2 ^ 64) (of-true (both-left (ltb (spreading t) (2 ^ 64)) (same (eightOf (spreading t)) (highFirst 8 t)) (well t h)))
 
-pub spread-bits : (b : ℕ) → b < 256 → eightOf (bitAnd (b % 128 * 0x0002040810204081) 0x0101010101010101 + b / 128 * 2 ^ 56 % 2 ^ 64) ≡ lowFirst 8 b
+pub spread-bits : (t : ℕ) → t < 256 → eightOf (bitAnd (t * 0x0040201008040201 / 128) 0x0001010101010101 + t % 2 * 2 ^ 56 % 2 ^ 64) ≡ highFirst 8 t
 unfolding spreading
-spread-bits b h = same→eq _ _ (both-right (ltb (spreading b) (2 ^ 64)) (same (eightOf (spreading b)) (lowFirst 8 b)) (well b h))
+spread-bits t h = same→eq _ _ (both-right (ltb (spreading t) (2 ^ 64)) (same (eightOf (spreading t)) (highFirst 8 t)) (well t h))
 
 -- eight stores, each at the next place
 places : (at : ℕ) → (at + 1 ≡ suc at) × (at + 2 ≡ suc (suc at)) × (at + 3 ≡ suc (suc (suc at))) × (at + 4 ≡ suc (suc (suc (suc at))))

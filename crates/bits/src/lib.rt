@@ -7,15 +7,15 @@ ghost use Prim.Native.Nat.{_+_, _≤_, _<_};
 ghost use mathlib.Core.Bool.{true};
 ghost use lib.ListN.{length, take, drop};
 ghost use lib.Seq.{sets};
-ghost use Rattle.bits.specs.Bits.{lowFirst, lowValue, allBits, fourOf, eightOf};
+ghost use Rattle.bits.specs.Bits.{highFirst, lowValue, allBits, fourOf, eightOf};
 
-// A byte's bits as the eight bytes of a number, the lowest bit in the lowest byte. The factor brings bit j to place 8 j, and no two of
-// its products meet.
-pub fn spread(b: u8) -> u64
-    ensures { λ r. ⌜ eightOf r ≡ lowFirst 8 b ⌝ }
+// The bits of a byte as the eight bytes of a number, the highest bit in the lowest byte. The factor brings bit 7 - j to place 8 j + 7, and
+// no two of its products meet.
+pub fn spread(t: u8) -> u64
+    ensures { λ r. ⌜ eightOf r ≡ highFirst 8 t ⌝ }
 {
-    let low = ((b % 128) as u64) * 0x0002040810204081;
-    (low & 0x0101010101010101) + (((b / 128) as u64) << 56)
+    let all = (t as u64) * 0x0040201008040201;
+    ((all / 128) & 0x0001010101010101) + (((t % 2) as u64) << 56)
 }
 
 // The eight bytes of a number from place at on, the lowest first. A compiler makes one store of them.

@@ -4,11 +4,12 @@ ghost use Prim.Native.Nat.{_+_, _≤_, _<_};
 ghost use lib.ListN.{length};
 ghost use lib.Seq.{sets};
 ghost use Rattle.laws.specs.Tables.{byteTable};
-ghost use Rattle.bits.specs.Bits.{lowFirst};
+ghost use Rattle.bits.specs.Bits.{lowFirst, turned};
 ghost use Rattle.packet.specs.Stuff.{rowOf};
 ghost use Rattle.packet.specs.Sending.{aboveOf, afterOnes, Valid, Twice, Stuffs, Leads};
 use bits::spread;
 use bits::store_eight;
+use bits::turn::turn;
 
 // Where sending stands: the next place, and which bits of the next byte would, as ones, be a fifth one in a row.
 pub struct Sending {
@@ -356,24 +357,30 @@ fn stuff_byte(rows: &[u16; 256], byte: u8, mask: u16) -> Stuffed
     }
 }
 
-// The low ten bits of a number, the lowest first.
-fn put_ten(bits: u16, out: &mut [u8], at: usize)
-    requires { ⌜ at + 10 ≤ length (now out) ⌝ }
+// The low ten bits of a number, the lowest first: the low byte turned, and from its high bit, then two bits more.
+fn put_ten(turns: &[u8; 256], bits: u16, out: &mut [u8], at: usize)
+    requires { ⌜ (now turns ≡ byteTable turned) × (at + 10 ≤ length (now out)) ⌝ }
     ensures { λ _. ⌜ now (out .exit) ≡ sets (now (out .entry)) at (lowFirst 10 bits) ⌝ }
 {
-    store_eight(out, at, spread((bits % 256) as u8));
+    store_eight(out, at, spread(turn(turns, (bits % 256) as u8)));
     out[at + 8] = (bits / 256 % 2) as u8;
     out[at + 9] = (bits / 512 % 2) as u8;
 }
 
 // A byte, its low bit first. It always stores ten bits; whatever comes next, a flag at the least, covers those too many.
-pub fn send(rows: &[u16; 256], byte: u8, out: &mut [u8], from: Sending) -> Sending
-    requires { ⌜ (now rows ≡ byteTable rowOf) × Valid (from .mask) × (from .at + 10 ≤ length (now out)) ⌝ }
+pub fn send(
+    turns: &[u8; 256],
+    rows: &[u16; 256],
+    byte: u8,
+    out: &mut [u8],
+    from: Sending,
+) -> Sending
+    requires { ⌜ (now turns ≡ byteTable turned) × (now rows ≡ byteTable rowOf) × Valid (from .mask) × (from .at + 10 ≤ length (now out)) ⌝ }
     ensures { λ r. ⌜ Leads (lowFirst 8 byte) from (now (out .entry)) r (now (out .exit)) ⌝ }
 {
     let at = from.at;
     let x = stuff_byte(rows, byte, from.mask);
-    put_ten(x.bits, out, at);
+    put_ten(turns, x.bits, out, at);
     Sending {
         at: at + 8 + x.more as usize,
         mask: x.mask,

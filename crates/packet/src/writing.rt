@@ -75,7 +75,7 @@ fn send_frame(
     while i < n {
         let x = frame_byte(turns, table, payload, i, reg);
         reg = x.reg;
-        place = send(rows, x.byte, out, place);
+        place = send(turns, rows, x.byte, out, place);
         i += 1;
     }
     place

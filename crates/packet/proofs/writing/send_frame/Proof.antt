@@ -31,7 +31,7 @@ frame-byte-requires c κs = (c .before .before .before .before .pre .0, c .befor
 send-requires : tie.Need-send-requires Inv-loop μ-loop
 send-requires c κs =
     let u = c .before .before .before .loop .inv in
-    (c .before .before .before .before .before .before .pre .2, u .leads .valid, underway-room u (c .before .before .loop-test .taken) (c .before .before .before .before .before .before .pre .5))
+    (c .before .before .before .before .before .before .pre .0, c .before .before .before .before .before .before .pre .2, u .leads .valid, underway-room u (c .before .before .loop-test .taken) (c .before .before .before .before .before .before .pre .5))
 
 -- src/writing.rt:79:9
 add-i : tie.Need-add-i Inv-loop μ-loop
@@ -45,7 +45,7 @@ loop-less c = omega (arith, c .before .before .before .before .before .loop-test
 loop-again : tie.Need-loop-again Inv-loop μ-loop
 loop-again c =
     let f = c .before .before .before .before .frame-byte .ensures in
-    underway-turn (c .before .before .before .before .before .before .loop .inv) (c .before .before .before .before .before .loop-test .taken) (f .0) (f .1) (c .before .before .send .ensures) (c .before .before .send .kept .1 .1 .0)
+    underway-turn (c .before .before .before .before .before .before .loop .inv) (c .before .before .before .before .before .loop-test .taken) (f .0) (f .1) (c .before .before .send .ensures) (c .before .before .send .kept .1 .1 .1 .0)
 
 -- src/writing.rt:60:1
 same-length : tie.Need-same-length Inv-loop μ-loop
