@@ -1,19 +1,22 @@
 -- Lists of bits, the bits of a number and the number of bits: one turn of each loop, lengths, and how both go back and forth.
 -- Assumes nothing.
-use mathlib.Core.Path.{_≡_, refl, sym, ap, _∙_}
+use mathlib.Core.Path.{_≡_, refl, sym, ap, ap₂, _∙_}
 use mathlib.Core.Bool.{Bool, true, false}
 use mathlib.Core.List.{List, [], _∷_, _++_}
-use Prim.Native.Nat.{ℕ, zero, suc, _+_, _-_, _*_, _/_, _%_, _^_, _≤_, _<_}
-use native.Mathlib.Nat.{zero-add, suc-add, pow-suc, mul-assoc, mul-comm, div-div-eq-div-mul}
+use Prim.Native.Nat.{ℕ, zero, suc, _+_, _*_, _/_, _%_, _^_, _≤_, _<_}
+use native.Mathlib.Nat.{zero-add, suc-add, add-comm, lt-of-lt-of-le, pow-suc, mul-assoc, mul-comm, div-div-eq-div-mul}
+use native.Mathlib.Numerals.{one-add}
 use native.Mathlib.Omega.{arith}
 use borrow.Author.Tests.{le-leb, leb-true}
+use lib.Arith.{digits-lt}
 use lib.Dec.{leb}
-use lib.ListN.{length, getD, take, drop}
+use lib.ListN.{length, getD, take, drop, length-take}
+use lib.Pow.{pow-mono, shr-shr, mod-pow-add, high}
 use lib.Seq.{take-all}
 use Rattle.laws.specs.Tests.{both}
 use Rattle.laws.proofs.Tests.{both-left, both-right, both-no}
 use Rattle.laws.proofs.Lists.{next}
-use Rattle.bits.specs.Bits.{lowFirst, highFirst, lowValue, allBits}
+use Rattle.bits.specs.Bits.{lowFirst, highFirst, lowValue, highValue, allBits}
 
 -- ---- lists of bits
 
@@ -100,16 +103,13 @@ unfolding lowFirst
 length-lowFirst zero v = refl
 length-lowFirst (suc n) v = ap suc (length-lowFirst n (v / 2))
 
--- a bit of a number of two bytes is a bit of its upper or of its lower byte
-upper-bits : (v : ℕ) → (v / 2 ^ 15 % 2 ≡ v / 256 / 2 ^ 7 % 2) × (v / 2 ^ 14 % 2 ≡ v / 256 / 2 ^ 6 % 2) × (v / 2 ^ 13 % 2 ≡ v / 256 / 2 ^ 5 % 2) × (v / 2 ^ 12 % 2 ≡ v / 256 / 2 ^ 4 % 2) × (v / 2 ^ 11 % 2 ≡ v / 256 / 2 ^ 3 % 2) × (v / 2 ^ 10 % 2 ≡ v / 256 / 2 ^ 2 % 2) × (v / 2 ^ 9 % 2 ≡ v / 256 / 2 ^ 1 % 2) × (v / 2 ^ 8 % 2 ≡ v / 256 / 2 ^ 0 % 2)
-upper-bits v = (omega arith, omega arith, omega arith, omega arith, omega arith, omega arith, omega arith, omega arith)
-
-lower-bits : (v : ℕ) → (v / 2 ^ 7 % 2 ≡ v % 256 / 2 ^ 7 % 2) × (v / 2 ^ 6 % 2 ≡ v % 256 / 2 ^ 6 % 2) × (v / 2 ^ 5 % 2 ≡ v % 256 / 2 ^ 5 % 2) × (v / 2 ^ 4 % 2 ≡ v % 256 / 2 ^ 4 % 2) × (v / 2 ^ 3 % 2 ≡ v % 256 / 2 ^ 3 % 2) × (v / 2 ^ 2 % 2 ≡ v % 256 / 2 ^ 2 % 2) × (v / 2 ^ 1 % 2 ≡ v % 256 / 2 ^ 1 % 2) × (v / 2 ^ 0 % 2 ≡ v % 256 / 2 ^ 0 % 2)
-lower-bits v = (omega arith, omega arith, omega arith, omega arith, omega arith, omega arith, omega arith, omega arith)
-
-pub high-split : (v : ℕ) → highFirst 16 v ≡ highFirst 8 (v / 256) ++ highFirst 8 (v % 256)
+-- the bits of a number are those of its upper part, and then those of its lower part
+pub high-append : (m n v : ℕ) → highFirst (m + n) v ≡ highFirst m (v / 2 ^ n) ++ highFirst n v
 unfolding highFirst
-high-split v = let u = upper-bits v in let l = lower-bits v in cc
+high-append zero n v = rw (zero-add n)
+high-append (suc m) n v =
+    let e : v / 2 ^ (m + n) ≡ v / 2 ^ n / 2 ^ m = ap (λ (k : ℕ). v / 2 ^ k) (add-comm m n) ∙ sym (shr-shr v n m) in
+    rw (suc-add m n) (ap₂ (λ (x : ℕ) (t : List ℕ). x % 2 ∷ t) e (high-append m n v))
 
 -- ---- the number of bits
 
@@ -125,6 +125,61 @@ value-byte bits l e = rw (take-all 8 bits (omega arith)) at (value-bound 8 bits 
 pub value-eight : (v : ℕ) → lowValue (lowFirst 8 v) ≡ v % 256
 unfolding lowValue lowFirst
 value-eight v = omega arith
+
+-- ---- the number of bits, the highest first
+
+pub value-append : (xs ys : List ℕ) (a : ℕ) → highValue a (xs ++ ys) ≡ highValue (highValue a xs) ys
+unfolding highValue
+value-append [] ys a = refl
+value-append (x ∷ xs) ys a = value-append xs ys (a * 2 + x)
+
+-- what comes before goes up by as many places as there are bits
+value-after : (bits : List ℕ) (a : ℕ) → highValue a bits ≡ a * 2 ^ length bits + highValue 0 bits
+unfolding highValue
+value-after [] a = omega arith
+value-after (b ∷ bs) a =
+    value-after bs (a * 2 + b) ∙ sym (ap₂ (λ (p v : ℕ). a * p + v) (pow-suc 2 (length bs)) (value-after bs (0 * 2 + b)) ∙ step (2 ^ length bs) (highValue 0 bs))
+  where
+    step : (p v : ℕ) → a * (p * 2) + ((0 * 2 + b) * p + v) ≡ (a * 2 + b) * p + v
+    step p v = omega arith
+
+all-bound : (bits : List ℕ) → allBits bits ≡ true → highValue 0 bits < 2 ^ length bits
+unfolding highValue
+all-bound [] e = omega arith
+all-bound (b ∷ bs) e =
+    let h = bit-head b bs e in
+    let v : highValue 0 (b ∷ bs) ≡ b * 2 ^ length bs + highValue 0 bs = value-after bs (0 * 2 + b) ∙ ap (λ (k : ℕ). k * 2 ^ length bs + highValue 0 bs) (zero-add b) in
+    omega (arith, v, pow-suc 2 (length bs), digits-lt {q = b} {m = 2} (omega arith) (all-bound bs (bit-tail b bs e)))
+
+pub high-bound : (n : ℕ) (bits : List ℕ) → allBits bits ≡ true → highValue 0 (take n bits) < 2 ^ n
+high-bound n bits e = lt-of-lt-of-le (all-bound (take n bits) (allBits-take n bits e)) (pow-mono (omega (arith, length-take n bits)))
+
+pub value-high : (n v a : ℕ) → highValue a (highFirst n v) ≡ a * 2 ^ n + v % 2 ^ n
+unfolding highValue highFirst
+value-high zero v a = omega arith
+value-high (suc n) v a =
+    let m : v % 2 ^ suc n ≡ v / 2 ^ n % 2 * 2 ^ n + v % 2 ^ n = rw (one-add n) at (mod-pow-add v 1 n) in
+    value-high n v (a * 2 + v / 2 ^ n % 2) ∙ sym (ap₂ (λ (p r : ℕ). a * p + r) (pow-suc 2 n) m ∙ step (v / 2 ^ n % 2) (2 ^ n) (v % 2 ^ n))
+  where
+    step : (b p r : ℕ) → a * (p * 2) + (b * p + r) ≡ (a * 2 + b) * p + r
+    step b p r = omega arith
+
+pub high-back : (bits : List ℕ) (a : ℕ) → allBits bits ≡ true → highFirst (length bits) (highValue a bits) ≡ bits
+unfolding highFirst highValue
+high-back [] a e = refl
+high-back (b ∷ bs) a e =
+    let h = bit-head b bs e in
+    let d : highValue (a * 2 + b) bs / 2 ^ length bs % 2 ≡ b = rw (value-after bs (a * 2 + b), high (a * 2 + b) (length bs) (all-bound bs (bit-tail b bs e))) (omega arith) in
+    ap₂ _∷_ d (high-back bs (a * 2 + b) (bit-tail b bs e))
+
+-- the low n bits of a number are those of what 2 ^ n leaves of it
+pub high-low : (n v : ℕ) → highFirst n (v % 2 ^ n) ≡ highFirst n v
+high-low n v =
+    let m : highValue 0 (highFirst n v) ≡ v % 2 ^ n = value-high n v 0 ∙ omega arith in
+    rw (m, length-highFirst n v) at (high-back (highFirst n v) 0 (high-bits n v))
+
+pub high-split : (v : ℕ) → highFirst 16 v ≡ highFirst 8 (v / 256) ++ highFirst 8 (v % 256)
+high-split v = high-append 8 8 v ∙ ap (highFirst 8 (v / 256) ++_) (sym (high-low 8 v))
 
 -- ---- the bits of two numbers, one after the other
 

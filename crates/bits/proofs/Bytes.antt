@@ -1,20 +1,19 @@
--- Bytes as they are sent, and the bytes that bits make.
+-- Bytes as bits and back: a list of eight for each byte, and the bits as they are sent.
 -- Assumes nothing.
 use mathlib.Core.Path.{_≡_, refl, sym, ap, ap₂, _∙_}
 use mathlib.Core.Bool.{Bool, true}
 use mathlib.Core.List.{List, [], _∷_, _++_, append-assoc}
-use Prim.Native.Nat.{ℕ, zero, suc, _+_, _-_, _*_, _/_, _%_, _≤_, _<_}
+use Prim.Native.Nat.{ℕ, zero, suc, _+_, _*_, _/_, _≤_, _<_}
 use native.Mathlib.Omega.{arith}
-use borrow.Author.Tests.{eqb-true}
-use lib.Dec.{T, eqb, ltb, ltb→lt}
+use lib.Dec.{T, ltb, ltb→lt}
 use lib.ListN.{length, take, drop, length-append, length-drop}
 use lib.Seq.{take-at, drop-at, take-add, length-take-le}
 use Rattle.laws.specs.Lists.{same, AllBytes}
 use Rattle.laws.proofs.Tests.{is-true}
 use Rattle.laws.proofs.Lists.{same→eq}
 use Rattle.laws.proofs.Table.{allBelow, below}
-use Rattle.bits.specs.Bits.{lowFirst, highFirst, lowValue, highValue, turned, allBits, sentBits, bytesOf, bytesIn}
-use Rattle.bits.proofs.Bits.{allBits-end, allBits-append, allBits-take, allBits-drop, low-bits, length-lowFirst, length-highFirst, high-split, value-back, bits-back}
+use Rattle.bits.specs.Bits.{lowFirst, highFirst, lowValue, highValue, turned, allBits, joined, eights, sentBits, bytesOf, bytesIn}
+use Rattle.bits.proofs.Bits.{allBits-end, allBits-append, allBits-take, allBits-drop, low-bits, length-lowFirst, value-back, value-high, bits-back}
 
 -- ---- a byte: a test at each of 256
 
@@ -54,68 +53,88 @@ pub turned-back : (b : ℕ) → b < 256 → lowFirst 8 (turned b) ≡ highFirst 
 unfolding turns-back
 turned-back b h = same→eq _ _ (is-true (below turns-back 256 all-turn-back b h))
 
-comes-back : ℕ → Bool
-unfolding highValue highFirst
-comes-back b = eqb (highValue 0 (highFirst 8 b)) b
-
-all-come-back : T (allBelow comes-back 256)
-unfolding comes-back
-all-come-back = tt
-
-high-back : (b : ℕ) → b < 256 → highValue 0 (highFirst 8 b) ≡ b
-unfolding comes-back
-high-back b h = eqb-true _ _ (is-true (below comes-back 256 all-come-back b h))
-
 -- numbers of two bytes with the same bits are the same
 pub high-same : (a b : ℕ) → a < 65536 → b < 65536 → highFirst 16 a ≡ highFirst 16 b → a ≡ b
 high-same a b ha hb e =
-    let both = sym (high-split a) ∙ e ∙ high-split b in
-    let u : highFirst 8 (a / 256) ≡ highFirst 8 (b / 256) =
-    sym (take-at (highFirst 8 (a / 256)) _ 8 (length-highFirst 8 _)) ∙ ap (take 8) both ∙ take-at (highFirst 8 (b / 256)) _ 8 (length-highFirst 8 _) in
-    let l : highFirst 8 (a % 256) ≡ highFirst 8 (b % 256) =
-    sym (drop-at (highFirst 8 (a / 256)) _ 8 (length-highFirst 8 _)) ∙ ap (drop 8) both ∙ drop-at (highFirst 8 (b / 256)) _ 8 (length-highFirst 8 _) in
-    let u′ : a / 256 ≡ b / 256 = sym (high-back (a / 256) (omega arith)) ∙ ap (highValue 0) u ∙ high-back (b / 256) (omega arith) in
-    let l′ : a % 256 ≡ b % 256 = sym (high-back (a % 256) (omega arith)) ∙ ap (highValue 0) l ∙ high-back (b % 256) (omega arith) in
-    omega (arith, u′, l′)
+    let back : (v : ℕ) → v < 65536 → highValue 0 (highFirst 16 v) ≡ v = λ v h. value-high 16 v 0 ∙ omega arith in
+    sym (back a ha) ∙ ap (highValue 0) e ∙ back b hb
+
+-- ---- eight elements for each byte, and a byte for each eight
+
+pub joined-append : (f : ℕ → List ℕ) (xs ys : List ℕ) → joined f (xs ++ ys) ≡ joined f xs ++ joined f ys
+unfolding joined
+joined-append f [] ys = refl
+joined-append f (x ∷ xs) ys = ap (f x ++_) (joined-append f xs ys) ∙ sym (append-assoc (f x) (joined f xs) (joined f ys))
+
+pub length-joined : (f : ℕ → List ℕ) → ((b : ℕ) → length (f b) ≡ 8) → (bs : List ℕ) → length (joined f bs) ≡ 8 * length bs
+unfolding joined
+length-joined f long [] = refl
+length-joined f long (b ∷ bs) = length-append (f b) (joined f bs) ∙ omega (arith, long b, length-joined f long bs)
+
+pub joined-bits : (f : ℕ → List ℕ) → ((b : ℕ) → allBits (f b) ≡ true) → (bs : List ℕ) → allBits (joined f bs) ≡ true
+unfolding joined
+joined-bits f bits [] = allBits-end
+joined-bits f bits (b ∷ bs) = allBits-append (f b) (joined f bs) (bits b) (joined-bits f bits bs)
+
+pub length-eights : (g : List ℕ → ℕ) (n : ℕ) (bits : List ℕ) → length (eights g n bits) ≡ n
+unfolding eights
+length-eights g zero bits = refl
+length-eights g (suc n) bits = ap suc (length-eights g n (drop 8 bits))
+
+pub eights-joined : (f : ℕ → List ℕ) (g : List ℕ → ℕ) → ((b : ℕ) → length (f b) ≡ 8) → ((b : ℕ) → b < 256 → g (f b) ≡ b)
+    → (p ys : List ℕ) → AllBytes p → eights g (length p) (joined f p ++ ys) ≡ p
+unfolding eights joined AllBytes
+eights-joined f g long back [] ys h = refl
+eights-joined f g long back (b ∷ bs) ys h =
+    let a = append-assoc (f b) (joined f bs) ys in
+    let t = take-at (f b) (joined f bs ++ ys) 8 (long b) in
+    let d = drop-at (f b) (joined f bs ++ ys) 8 (long b) in
+    rw (a, t, d) (ap₂ _∷_ (back b (h .0)) (eights-joined f g long back bs ys (h .1)))
+
+pub joined-eights : (f : ℕ → List ℕ) (g : List ℕ → ℕ) → ((bs : List ℕ) → length bs ≡ 8 → allBits bs ≡ true → f (g bs) ≡ bs)
+    → (n : ℕ) (bits : List ℕ) → 8 * n ≤ length bits → allBits bits ≡ true → joined f (eights g n bits) ≡ take (8 * n) bits
+unfolding joined eights
+joined-eights f g back zero bits h e = refl
+joined-eights f g back (suc n) bits h e =
+    let k : 8 * suc n ≡ 8 + 8 * n = omega arith in
+    let b = back (take 8 bits) (length-take-le 8 bits (omega arith)) (allBits-take 8 bits e) in
+    let r = joined-eights f g back n (drop 8 bits) (omega (arith, length-drop 8 bits)) (allBits-drop 8 bits e) in
+    ap₂ _++_ b r ∙ sym (ap (λ (m : ℕ). take m bits) k ∙ take-add 8 (8 * n) bits)
 
 -- ---- bytes as sent
 
 pub sentBits-more : (b : ℕ) (bs : List ℕ) → sentBits (b ∷ bs) ≡ lowFirst 8 b ++ sentBits bs
-unfolding sentBits
+unfolding sentBits joined
 sentBits-more b bs = refl
 
 pub sentBits-end : sentBits [] ≡ []
-unfolding sentBits
+unfolding sentBits joined
 sentBits-end = refl
 
 pub sent-append : (xs ys : List ℕ) → sentBits (xs ++ ys) ≡ sentBits xs ++ sentBits ys
 unfolding sentBits
-sent-append [] ys = refl
-sent-append (x ∷ xs) ys = ap (lowFirst 8 x ++_) (sent-append xs ys) ∙ sym (append-assoc (lowFirst 8 x) (sentBits xs) (sentBits ys))
+sent-append xs ys = joined-append (lowFirst 8) xs ys
 
 pub length-sent : (bs : List ℕ) → length (sentBits bs) ≡ 8 * length bs
 unfolding sentBits
-length-sent [] = refl
-length-sent (b ∷ bs) = length-append (lowFirst 8 b) (sentBits bs) ∙ omega (arith, length-lowFirst 8 b, length-sent bs)
+length-sent bs = length-joined (lowFirst 8) (length-lowFirst 8) bs
 
 pub sent-bits : (p : List ℕ) → allBits (sentBits p) ≡ true
 unfolding sentBits
-sent-bits [] = allBits-end
-sent-bits (b ∷ bs) = allBits-append (lowFirst 8 b) (sentBits bs) (low-bits 8 b) (sent-bits bs)
+sent-bits p = joined-bits (lowFirst 8) (low-bits 8) p
 
 -- ---- bytes from bits
 
 pub length-bytesOf : (n : ℕ) (bits : List ℕ) → length (bytesOf n bits) ≡ n
 unfolding bytesOf
-length-bytesOf zero bits = refl
-length-bytesOf (suc n) bits = ap suc (length-bytesOf n (drop 8 bits))
+length-bytesOf n bits = length-eights lowValue n bits
 
 pub bytesIn-none : (us : List ℕ) → length us < 8 → bytesIn us ≡ []
-unfolding bytesIn bytesOf
+unfolding bytesIn bytesOf eights
 bytesIn-none us h = let e : length us / 8 ≡ 0 = omega arith in rw e
 
 pub bytesIn-more : (xs us : List ℕ) → length xs ≡ 8 → bytesIn (xs ++ us) ≡ lowValue xs ∷ bytesIn us
-unfolding bytesIn bytesOf
+unfolding bytesIn bytesOf eights
 bytesIn-more xs us e =
     let n : length (xs ++ us) / 8 ≡ suc (length us / 8) = omega (arith, length-append xs us) in
     rw (n, take-at xs us 8 e, drop-at xs us 8 e)
@@ -123,19 +142,9 @@ bytesIn-more xs us e =
 -- ---- there and back
 
 pub bytes-back : (p ys : List ℕ) → AllBytes p → bytesOf (length p) (sentBits p ++ ys) ≡ p
-unfolding bytesOf sentBits AllBytes
-bytes-back [] ys h = refl
-bytes-back (b ∷ bs) ys h =
-    let a = append-assoc (lowFirst 8 b) (sentBits bs) ys in
-    let t = take-at (lowFirst 8 b) (sentBits bs ++ ys) 8 (length-lowFirst 8 b) in
-    let d = drop-at (lowFirst 8 b) (sentBits bs ++ ys) 8 (length-lowFirst 8 b) in
-    rw (a, t, d) (ap₂ _∷_ (value-back 8 b (h .0)) (bytes-back bs ys (h .1)))
+unfolding bytesOf sentBits
+bytes-back p ys h = eights-joined (lowFirst 8) lowValue (length-lowFirst 8) (value-back 8) p ys h
 
 pub sent-back : (n : ℕ) (f : List ℕ) → 8 * n ≤ length f → allBits f ≡ true → sentBits (bytesOf n f) ≡ take (8 * n) f
 unfolding sentBits bytesOf
-sent-back zero f h e = refl
-sent-back (suc n) f h e =
-    let k : 8 * suc n ≡ 8 + 8 * n = omega arith in
-    let b = bits-back 8 (take 8 f) (length-take-le 8 f (omega arith)) (allBits-take 8 f e) in
-    let r = sent-back n (drop 8 f) (omega (arith, length-drop 8 f)) (allBits-drop 8 f e) in
-    ap₂ _++_ b r ∙ sym (ap (λ (m : ℕ). take m f) k ∙ take-add 8 (8 * n) f)
+sent-back n f h e = joined-eights (lowFirst 8) lowValue (bits-back 8) n f h e

@@ -43,24 +43,16 @@ unfolding spreading
 spread-bits t h = same→eq _ _ (both-right (ltb (spreading t) (2 ^ 64)) (same (eightOf (spreading t)) (highFirst 8 t)) (well t h))
 
 -- eight stores, each at the next place
-places : (at : ℕ) → (at + 1 ≡ suc at) × (at + 2 ≡ suc (suc at)) × (at + 3 ≡ suc (suc (suc at))) × (at + 4 ≡ suc (suc (suc (suc at))))
+pub places : (at : ℕ) → (at + 1 ≡ suc at) × (at + 2 ≡ suc (suc at)) × (at + 3 ≡ suc (suc (suc at))) × (at + 4 ≡ suc (suc (suc (suc at))))
     × (at + 5 ≡ suc (suc (suc (suc (suc at))))) × (at + 6 ≡ suc (suc (suc (suc (suc (suc at)))))) × (at + 7 ≡ suc (suc (suc (suc (suc (suc (suc at)))))))
 places at = (omega arith, omega arith, omega arith, omega arith, omega arith, omega arith, omega arith)
 
-eight-sets : (out : List ℕ) (at a b c d e f g h : ℕ) →
+pub eight-sets : (out : List ℕ) (at a b c d e f g h : ℕ) →
     set (set (set (set (set (set (set (set out at a) (at + 1) b) (at + 2) c) (at + 3) d) (at + 4) e) (at + 5) f) (at + 6) g) (at + 7) h
     ≡ sets out at (a ∷ b ∷ c ∷ d ∷ e ∷ f ∷ g ∷ h ∷ [])
 eight-sets out at a b c d e f g h =
     let p = places at in
     rw (p .0, p .1, p .2, p .3, p .4, p .5, p .6)
-
-pub eight-stores : (out : List ℕ) (at z : ℕ) →
-    set (set (set (set (set (set (set (set out at (z % 256)) (at + 1) (z / 2 ^ 8 % 256)) (at + 2) (z / 2 ^ 16 % 256)) (at + 3) (z / 2 ^ 24 % 256))
-    (at + 4) (z / 2 ^ 32 % 256)) (at + 5) (z / 2 ^ 40 % 256)) (at + 6) (z / 2 ^ 48 % 256)) (at + 7) (z / 2 ^ 56 % 256)
-    ≡ sets out at (eightOf z)
-unfolding eightOf
-eight-stores out at z =
-    eight-sets out at (z % 256) (z / 2 ^ 8 % 256) (z / 2 ^ 16 % 256) (z / 2 ^ 24 % 256) (z / 2 ^ 32 % 256) (z / 2 ^ 40 % 256) (z / 2 ^ 48 % 256) (z / 2 ^ 56 % 256)
 
 -- ---- eight bits as a byte
 

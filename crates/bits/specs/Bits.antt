@@ -37,15 +37,23 @@ unfoldable pub allBits : List ℕ → Bool
 allBits [] = true
 allBits (b ∷ bs) = both (leb b 1) (allBits bs)
 
+-- f of each element, one list after the other
+unfoldable pub joined : (ℕ → List ℕ) → List ℕ → List ℕ
+joined f [] = []
+joined f (b ∷ bs) = f b ++ joined f bs
+
+-- g of the first eight elements, of the next eight, and so on, n times
+unfoldable pub eights : (List ℕ → ℕ) → ℕ → List ℕ → List ℕ
+eights g zero bits = []
+eights g (suc n) bits = g (take 8 bits) ∷ eights g n (drop 8 bits)
+
 -- the bits of bytes as sent: byte by byte, the low bit first
 unfoldable pub sentBits : List ℕ → List ℕ
-sentBits [] = []
-sentBits (b ∷ bs) = lowFirst 8 b ++ sentBits bs
+sentBits bs = joined (lowFirst 8) bs
 
 -- the n bytes that were sent so
 unfoldable pub bytesOf : ℕ → List ℕ → List ℕ
-bytesOf zero bits = []
-bytesOf (suc n) bits = lowValue (take 8 bits) ∷ bytesOf n (drop 8 bits)
+bytesOf n bits = eights lowValue n bits
 
 -- the whole bytes that these bits make; bits that make none are left out
 unfoldable pub bytesIn : List ℕ → List ℕ

@@ -1,8 +1,8 @@
--- Lists as loops go through them, what stores one after the other come to, and the test for equal lists.
+-- Lists as loops go through them, parts of a list, what stores one after the other come to, and the test for equal lists.
 -- Assumes nothing.
 use mathlib.Core.Path.{_≡_, refl, sym, ap, _∙_}
 use mathlib.Core.Bool.{Bool, true}
-use mathlib.Core.List.{List, [], _∷_, _++_}
+use mathlib.Core.List.{List, [], _∷_, _++_, append-assoc}
 use Prim.Native.Nat.{ℕ, zero, suc, _+_, _-_, _≤_, _<_}
 use native.Mathlib.Nat.{add-zero, add-suc, suc-add, zero-add}
 use native.Mathlib.Numerals.{add-one}
@@ -10,7 +10,7 @@ use native.Mathlib.Omega.{arith}
 use borrow.Author.Tests.{eq-eqb, eqb-true}
 use lib.Dec.{eqb}
 use lib.ListN.{length, getD, take, drop, set, drop-of-length-le, length-drop, take-append-drop}
-use lib.Seq.{drop-cons, set-set, set-comm, sets, sets-eq}
+use lib.Seq.{drop-cons, take-append-le, drop-append-le, take-add, take-at, drop-at, set-set, set-comm, sets, sets-eq}
 use Rattle.laws.specs.Tests.{both}
 use Rattle.laws.specs.Lists.{over, same, AllBytes}
 use Rattle.laws.proofs.Tests.{both-left, both-right}
@@ -24,6 +24,17 @@ next xs i h = rw add-one (drop-cons xs i 0 h)
 -- nothing is left at the end
 pub done : (xs : List ℕ) (i : ℕ) → length xs ≤ i → drop i xs ≡ []
 done xs i h = drop-of-length-le xs h
+
+-- ---- a part of a list
+
+pub take-middle : (xs ys zs : List ℕ) (at n : ℕ) → length xs ≡ at → length ys ≡ n → take n (drop at (xs ++ ys ++ zs)) ≡ ys
+take-middle xs ys zs at n e f = ap (take n) (ap (drop at) (append-assoc xs ys zs) ∙ drop-at xs (ys ++ zs) at e) ∙ take-at ys zs n f
+
+pub take-within : (xs ys : List ℕ) (at n : ℕ) → at + n ≤ length xs → take n (drop at (xs ++ ys)) ≡ take n (drop at xs)
+take-within xs ys at n h = ap (take n) (drop-append-le at xs ys (omega arith)) ∙ take-append-le n (drop at xs) ys (omega (arith, length-drop at xs))
+
+pub three-parts : (xs : List ℕ) (at n : ℕ) → xs ≡ take at xs ++ take n (drop at xs) ++ drop (at + n) xs
+three-parts xs at n = sym (ap (_++ drop (at + n) xs) (sym (take-add at n xs)) ∙ take-append-drop (at + n) xs)
 
 -- ---- bytes
 

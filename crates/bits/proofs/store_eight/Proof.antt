@@ -1,6 +1,7 @@
 use native.Mathlib.Omega.{arith}
 use lib.ListN.{length-set}
-use Rattle.bits.proofs.Spreading.{eight-stores}
+use Rattle.bits.specs.Bits.{eightOf}
+use Rattle.bits.proofs.Spreading.{eight-sets}
 use borrow.Author.Needs.{needs}
 use Rattle.bits.proofs.store_eight.Statement.{statement}
 use Rattle.bits.proofs.store_eight.Tie as tie
@@ -78,7 +79,8 @@ same-length : tie.Need-same-length
 same-length c = simp length-set
 
 returns : tie.Need-returns
-returns c = eight-stores (c .args .out .now) (c .args .at) (c .args .z)
+unfolding eightOf
+returns c = eight-sets (c .args .out .now) (c .args .at) _ _ _ _ _ _ _ _
 
 pub store-eight-spec : {M : Type 1} → statement M
 store-eight-spec =
