@@ -214,7 +214,7 @@ module _ (f : Four) (a b c d : ℕ) (fit : allFit (fourRow f a b c d) ≡ true) 
     pub four-64 : ((f .a * 2 ^ b % 2 ^ 64 + f .b) * 2 ^ c % 2 ^ 64 + f .c) * 2 ^ d % 2 ^ 64 + f .d < 2 ^ 64
     four-64 = rw four-is (lt-of-lt-of-le four-fits (pow-mono {j = 64} (omega arith)))
 
-  four-bits : highFirst (a + b + c + d) (joinedFour f b c d) ≡ laid (fourRow f a b c d)
+  pub four-bits : highFirst (a + b + c + d) (joinedFour f b c d) ≡ laid (fourRow f a b c d)
   unfolding laid
   four-bits =
       high-two (a + b + c) d ((f .a * 2 ^ b + f .b) * 2 ^ c + f .c) (f .d) fourth

@@ -7,7 +7,7 @@ use native.Mathlib.Nat.{one-mul, mod-lt}
 use native.Mathlib.Omega.{arith}
 use lib.Arith.{digits-lt}
 use lib.ListN.{length, getD, take, drop, length-append}
-use lib.Pow.{pow-pos, pow-add, shl-exact, shr-lt, split, high, low, mod-pow-add}
+use lib.Pow.{pow-pos, pow-add, shl-exact, shr-lt, split, high, low, mod-pow-add, field, shr-shr, shl-shr}
 use lib.Seq.{sets, drop-cons, length-take-le, length-sets, sets-eq}
 use Rattle.laws.specs.Lists.{AllBytes}
 use Rattle.laws.proofs.Lists.{all-bytes, take-middle, three-parts}
@@ -207,11 +207,20 @@ module _ (l : List ℕ) (bytes : (i : ℕ) → getD l i 0 < 256) (s at w : ℕ) 
   bits-parted : bitsOf l ≡ lead ++ highFirst w (wordOf l s / 2 ^ over s at w) ++ rest
   bits-parted = bits-around ∙ parted (wordOf l s) (wordOf l s / 2 ^ over s at w) (high-three (at - 8 * s) w (over s at w) (wordOf l s))
 
-  pub field-is : {a : ℕ} → a ≡ wordOf l s → a / 2 ^ over s at w % (1 * 2 ^ w % 2 ^ 64) ≡ fieldOf l at w
+  -- shifted up and down again: the field without what is before and after it
+  shifted : (a : ℕ) → a * 2 ^ (at - 8 * s) % 2 ^ 64 / 2 ^ (64 - w) ≡ a / 2 ^ over s at w % 2 ^ w
+  shifted a =
+      let k = at - 8 * s in
+      let top : w + (64 - w) ≡ 64 = omega (arith, here .narrow) in
+      let down : 64 - w ≡ k + over s at w = omega (arith, counted here) in
+      ap (λ (n : ℕ). a * 2 ^ k % 2 ^ n / 2 ^ (64 - w)) (sym top) ∙ field (a * 2 ^ k) w (64 - w)
+      ∙ ap (λ (n : ℕ). a * 2 ^ k / 2 ^ n % 2 ^ w) down ∙ ap (_% 2 ^ w) (sym (shr-shr (a * 2 ^ k) k (over s at w)) ∙ ap (_/ 2 ^ over s at w) (shl-shr a k))
+
+  pub field-is : {a : ℕ} → a ≡ wordOf l s → a * 2 ^ (at - 8 * s) % 2 ^ 64 / 2 ^ (64 - w) ≡ fieldOf l at w
   unfolding fieldOf
   field-is {a} e =
       let m = wordOf l s / 2 ^ over s at w in
-      ap₂ (λ (b k : ℕ). b / 2 ^ over s at w % k) e (mask here)
+      shifted a ∙ ap (λ (b : ℕ). b / 2 ^ over s at w % 2 ^ w) e
       ∙ sym (ap (λ (t : List ℕ). highValue 0 (take w (drop at t))) bits-parted
       ∙ ap (highValue 0) (take-middle lead (highFirst w m) rest at w length-lead (length-highFirst w m))
       ∙ value-high w m 0

@@ -55,8 +55,8 @@ pub fn field(bytes: &[u8], at: usize, width: usize) -> u32
     ensures { λ r. ⌜ r ≡ fieldOf (now (bytes .entry)) at width ⌝ }
 {
     let s = window(bytes.len(), at);
-    let over = 64 - (at - 8 * s) - width;
-    ((word_at(bytes, s) >> over) % (1 << width)) as u32
+    let before = at - 8 * s;
+    ((word_at(bytes, s) << before) >> (64 - width)) as u32
 }
 
 // Puts a number of so many bits from bit at on, as many as eight bytes hold.

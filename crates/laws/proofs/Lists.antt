@@ -55,7 +55,7 @@ take-bytes (suc n) (x ∷ xs) h = (h .0, take-bytes n xs (h .1))
 pub put-one : (out : List ℕ) (o b : ℕ) (xs : List ℕ) → sets (set out o b) (o + 1) xs ≡ sets out o (b ∷ xs)
 put-one out o b xs = rw (add-one o)
 
-pub sets-append : (xs ys out : List ℕ) (o : ℕ) → sets out o (xs ++ ys) ≡ sets (sets out o xs) (o + length xs) ys
+pub sets-append : {A : Type 0} (xs ys out : List A) (o : ℕ) → sets out o (xs ++ ys) ≡ sets (sets out o xs) (o + length xs) ys
 sets-append [] ys out o = rw (add-zero o)
 sets-append (x ∷ xs) ys out o = sets-append xs ys (set out o x) (suc o) ∙ ap (λ (k : ℕ). sets (sets (set out o x) (suc o) xs) k ys) (suc-add o (length xs) ∙ sym (add-suc o (length xs)))
 
@@ -89,7 +89,7 @@ stored-and-more zs xs ys out m o e l h =
     ∙ sym (sets-append xs ys out o)
 
 -- a list that was stored from the start
-pub stored-over : (xs l : List ℕ) → length xs ≤ length l → sets l 0 xs ≡ over xs l
+pub stored-over : {A : Type 0} (xs l : List A) → length xs ≤ length l → sets l 0 xs ≡ over xs l
 unfolding over
 stored-over xs l h = sets-eq xs l 0 (omega arith) ∙ ap (λ (k : ℕ). xs ++ drop k l) (zero-add (length xs))
 

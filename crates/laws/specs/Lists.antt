@@ -8,7 +8,7 @@ use lib.ListN.{length, drop}
 use Rattle.laws.specs.Tests.{both}
 
 -- xs in the first places of out; the others stay
-unfoldable pub over : List ℕ → List ℕ → List ℕ
+unfoldable pub over : {A : Type 0} → List A → List A → List A
 over xs out = xs ++ drop (length xs) out
 
 -- the two lists are equal

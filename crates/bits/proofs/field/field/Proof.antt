@@ -3,7 +3,7 @@ use native.Mathlib.Omega.{arith}
 use lib.ListN.{length}
 use lib.Pow.{pow-mono}
 use Rattle.bits.proofs.Fields.{field-bound}
-use Rattle.bits.proofs.Words.{Holds, mask-some, field-is}
+use Rattle.bits.proofs.Words.{Holds, field-is}
 use borrow.Author.Needs.{needs}
 use Rattle.bits.proofs.field.field.Statement.{statement}
 use Rattle.bits.proofs.field.field.Tie as tie
@@ -14,29 +14,23 @@ here c = omega arith
 window-requires : tie.Need-window-requires
 window-requires c κs = search needs
 
-mul-over : tie.Need-mul-over
-mul-over c = search needs
+mul-before : tie.Need-mul-before
+mul-before c = search needs
 
-sub-over : tie.Need-sub-over
-sub-over c = search needs
-
-sub-over-2 : tie.Need-sub-over-2
-sub-over-2 c = search needs
-
-sub-over-3 : tie.Need-sub-over-3
-sub-over-3 c = search needs
+sub-before : tie.Need-sub-before
+sub-before c = search needs
 
 word-at-requires : tie.Need-word-at-requires
 word-at-requires c κs = search needs
 
-shr-result : tie.Need-shr-result
-shr-result c = search needs
-
 shl-result : tie.Need-shl-result
 shl-result c = search needs
 
-rem-result : tie.Need-rem-result
-rem-result c = mask-some (here c)
+sub-result : tie.Need-sub-result
+sub-result c = search needs
+
+shr-result : tie.Need-shr-result
+shr-result c = search needs
 
 returns : tie.Need-returns
 returns c = field-is _ (λ i. c .before .before .shared-slice-known .given i .fits) _ _ _ (here c) (c .word-at .ensures)
@@ -49,13 +43,11 @@ field-spec =
     tie.close
     (tie.spec
     window-requires
-    mul-over
-    sub-over
-    sub-over-2
-    sub-over-3
+    mul-before
+    sub-before
     word-at-requires
-    shr-result
     shl-result
-    rem-result
+    sub-result
+    shr-result
     cast-result
     returns)

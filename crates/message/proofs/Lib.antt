@@ -1,0 +1,6 @@
+pub mod Complement
+pub mod Examples
+pub mod Exactly
+pub mod Readings
+pub mod RoundTrip
+pub mod Writings

@@ -1,0 +1,5 @@
+pub mod Signs
+pub mod State
+pub mod Message
+pub mod Sheet
+pub mod Promises

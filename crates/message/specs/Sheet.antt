@@ -1,0 +1,92 @@
+-- The fields of a message four in a row, by which the code writes them: the words for the contracts in src/writing.rt and src/state.rt.
+-- Assumes nothing.
+use Prim.Native.Nat.{ℕ, _+_, _*_}
+use mathlib.Core.Bool.{Bool, true, false}
+use mathlib.Core.List.{List, _++_}
+use lib.Dec.{leb}
+use Rattle.laws.specs.Tests.{both, pick}
+use Rattle.bits.specs.Row.{fourRow}
+use Rattle.bits.specs.declared.reader.Four.{Four}
+use Rattle.message.specs.Signs.{unsignedOf}
+use Rattle.message.specs.State.{timeOutOf}
+use Rattle.message.specs.declared.Report.{Report}
+use Rattle.message.specs.declared.Base.{Base}
+use Rattle.message.specs.declared.Message.{Message}
+use Rattle.message.specs.declared.Message.the-variants.{One, Two, Three, Four as Station, Other}
+use Rattle.message.specs.declared.state.Clock.{Clock}
+use Rattle.message.specs.declared.state.SubMessage.{SubMessage}
+use Rattle.message.specs.declared.state.SubMessage.the-variants.{Offset, Time, Slot, Stations}
+use Rattle.message.specs.declared.state.SelfOrganised.{SelfOrganised}
+use Rattle.message.specs.declared.state.Incremental.{Incremental}
+use Rattle.message.specs.declared.writing.Rows.{Rows}
+use Rattle.message.specs.declared.writing.Sheet.{Sheet}
+use Rattle.message.specs.declared.writing.Sheet.the-variants.{Known, Unknown}
+
+-- ---- the state, of widths 2, 3, 14 and 0
+
+-- the clock in one number, which is too wide where a part of it is
+unfoldable pub clockValue : Clock → ℕ
+clockValue c = pick (both (leb (c .hour) 31) (both (leb (c .minute) 127) (leb (c .unused) 3))) (c .hour * 512 + c .minute * 4 + c .unused) 16384
+
+abbrev pub valueOf : SubMessage → ℕ
+valueOf (Offset v) = v
+valueOf (Time c) = clockValue c
+valueOf (Slot c) = c .number
+valueOf (Stations c) = c .number
+
+abbrev pub organisedFour : SelfOrganised → Four
+organisedFour s = record { a = s .sync; b = timeOutOf (s .sub); c = valueOf (s .sub); d = 0 }
+
+-- and of widths 2, 13, 3 and 1
+abbrev pub incrementalFour : Incremental → Four
+incrementalFour s = record { a = s .sync; b = s .increment; c = s .code; d = s .keep }
+
+-- ---- the rows of a message
+
+abbrev pub reportRows : ℕ → Report → Four → Bool → Rows
+reportRows id r state increments =
+    record {
+      a = record { a = id; b = r .repeat; c = r .source; d = r .status };
+      b = record { a = unsignedOf 8 (r .turn); b = r .speed; c = r .accuracy; d = unsignedOf 28 (r .longitude) };
+      c = record { a = unsignedOf 27 (r .latitude); b = r .course; c = r .heading; d = r .second };
+      d = record { a = r .manoeuvre; b = r .spare; c = r .raim; d = 0 };
+      state = state;
+      base = false;
+      increments = increments;
+    }
+
+abbrev pub baseRows : Base → Four → Rows
+baseRows b state =
+    record {
+      a = record { a = 4; b = b .repeat; c = b .source; d = b .year };
+      b = record { a = b .month; b = b .day; c = b .hour; d = b .minute };
+      c = record { a = b .second; b = b .accuracy; c = unsignedOf 28 (b .longitude); d = unsignedOf 27 (b .latitude) };
+      d = record { a = b .fix; b = b .control; c = b .spare; d = b .raim };
+      state = state;
+      base = true;
+      increments = false;
+    }
+
+unfoldable pub sheetOf : Message → Sheet
+sheetOf (One r s) = Known (reportRows 1 r (organisedFour s) false)
+sheetOf (Two r s) = Known (reportRows 2 r (organisedFour s) false)
+sheetOf (Three r s) = Known (reportRows 3 r (incrementalFour s) true)
+sheetOf (Station b s) = Known (baseRows b (organisedFour s))
+sheetOf Other = Unknown
+
+-- ---- their widths
+
+abbrev pub reportFields : Rows → List (ℕ × ℕ)
+reportFields x = fourRow (x .a) 6 2 30 4 ++ fourRow (x .b) 8 10 1 28 ++ fourRow (x .c) 27 12 9 6 ++ fourRow (x .d) 2 3 1 0
+
+abbrev pub baseFields : Rows → List (ℕ × ℕ)
+baseFields x = fourRow (x .a) 6 2 30 14 ++ fourRow (x .b) 4 5 5 6 ++ fourRow (x .c) 6 1 28 27 ++ fourRow (x .d) 4 1 9 1
+
+unfoldable pub headFields : Rows → List (ℕ × ℕ)
+headFields x = pick (x .base) (baseFields x) (reportFields x)
+
+unfoldable pub stateFields : Rows → List (ℕ × ℕ)
+stateFields x = pick (x .increments) (fourRow (x .state) 2 13 3 1) (fourRow (x .state) 2 3 14 0)
+
+abbrev pub fieldsIn : Rows → List (ℕ × ℕ)
+fieldsIn x = headFields x ++ stateFields x
