@@ -1,6 +1,6 @@
 # make run     write and read one packet through the C face, and print both
 # make test    the gate: every proof, every must-fail edit, every comparison; its last line is the sum
-# make bench   packet write and read beside plain C, table-driven C and the second program, as ratios
+# make bench   packets and messages, written and read, beside plain C, the best C by hand and the second program, as ratios
 #
 # Rattle compiles for x86-64. Elsewhere what links with it is compiled for x86-64 too and runs under an emulator.
 
@@ -22,10 +22,13 @@ WARN := -std=c11 -Wall -Wextra -Werror -pedantic
 SANITIZE := -O1 -g -fsanitize=address,undefined -fno-sanitize-recover=all
 
 BOARD := target/staticlib/libboard.a
-SECOND := second/packet.c second/random.c second/unstuffed.c second/stream.c second/damage.c second/refusals.c \
-          second/faults.c second/cases.c second/vectors.c second/trial.c second/report.c
+COMMON := $(addprefix second/,random.c stream.c lines.c trial.c report.c tally.c run.c)
+PACKET := $(addprefix second/,packet.c unstuffed.c damage.c refusals.c faults.c cases.c vectors.c) $(COMMON)
+MESSAGE := $(addprefix second/,message.c message_vectors.c message_fields.c message_lengths.c message_cases.c message_run.c) $(COMMON)
 HEADERS := $(wildcard include/*.h second/*.h bench/*.h)
-PROGRAMS := build/example build/test_packet build/test_packet_sanitized build/compare_packet
+TESTS := build/test_packet build/test_message
+PROGRAMS := build/example $(TESTS) $(addsuffix _sanitized,$(TESTS)) build/compare_packet build/compare_message
+BENCHES := build/bench_packet build/bench_message
 
 # the payload of the first packet of vectors/packets.txt
 PAYLOAD := $(shell sed -n '/^[^\#]/{s/ :.*//p;q;}' vectors/packets.txt)
@@ -38,8 +41,10 @@ run: tools build/example
 test: tools
 	@X86_RUN="$(X86_RUN)" tests/run
 
-bench: tools build/bench_packet
+bench: tools $(BENCHES)
 	@$(X86_RUN) build/bench_packet "$(WHERE)"
+	@echo
+	@$(X86_RUN) build/bench_message "$(WHERE)"
 
 tools:
 	@mkdir -p build
@@ -53,17 +58,24 @@ $(BOARD): crates.txt $(shell find crates -name '*.rt' -o -name '*.antt')
 build/example: include/example.c $(HEADERS) $(BOARD)
 	$(X86_CC) $(WARN) $(OPT) $(X86_LINK) -o $@ include/example.c $(BOARD)
 
-build/test_packet: second/test_packet.c $(SECOND) $(HEADERS)
-	cc $(WARN) $(OPT) -o $@ second/test_packet.c $(SECOND)
+build/test_packet build/test_packet_sanitized: $(PACKET)
+build/test_message build/test_message_sanitized: $(MESSAGE)
+build/compare_packet: $(PACKET)
+build/compare_message: $(MESSAGE)
+build/bench_packet: bench/timing.c bench/plain_packet.c bench/table_packet.c second/packet.c
+build/bench_message: bench/timing.c bench/plain_message.c bench/bytewise_message.c second/message.c
 
-build/test_packet_sanitized: second/test_packet.c $(SECOND) $(HEADERS)
-	cc $(WARN) $(SANITIZE) -o $@ second/test_packet.c $(SECOND)
+build/test_%_sanitized: second/test_%.c $(HEADERS)
+	cc $(WARN) $(SANITIZE) -o $@ $(filter %.c,$^)
 
-build/compare_packet: second/compare_packet.c $(SECOND) $(HEADERS) $(BOARD)
-	$(X86_CC) $(WARN) $(OPT) $(X86_LINK) -o $@ second/compare_packet.c $(SECOND) $(BOARD)
+build/test_%: second/test_%.c $(HEADERS)
+	cc $(WARN) $(OPT) -o $@ $(filter %.c,$^)
 
-build/bench_packet: bench/bench_packet.c bench/plain_packet.c bench/table_packet.c second/packet.c $(HEADERS) $(BOARD)
-	$(X86_CC) $(WARN) $(OPT) -DFLAGS='"$(OPT)"' $(X86_LINK) -o $@ bench/bench_packet.c bench/plain_packet.c bench/table_packet.c second/packet.c $(BOARD)
+build/compare_%: second/compare_%.c $(HEADERS) $(BOARD)
+	$(X86_CC) $(WARN) $(OPT) $(X86_LINK) -o $@ $(filter %.c,$^) $(BOARD)
+
+build/bench_%: bench/bench_%.c $(HEADERS) $(BOARD)
+	$(X86_CC) $(WARN) $(OPT) -DFLAGS='"$(OPT)"' $(X86_LINK) -o $@ $(filter %.c,$^) $(BOARD)
 
 clean:
 	rm -rf build target

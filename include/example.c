@@ -1,5 +1,6 @@
 /* How a program uses quaysickle.h: each argument is a payload in hex; it is written as a link packet, the packet is read again, and both
- * are printed. Ends with status 1 where anything was refused or did not come back. */
+ * are printed. A payload that is a message 1 to 4 is taken apart into its numbers, which are printed, and put together again. Ends with
+ * status 1 where anything was refused or did not come back. */
 #include "quaysickle.h"
 
 #include <stdio.h>
@@ -29,7 +30,29 @@ static int refused(const char *call, uint32_t number) {
     return 1;
 }
 
-static int there_and_back(const uint8_t *sent, size_t sent_len) {
+/* A payload that is no message of ours is none of this function's business. */
+static int message_there_and_back(const uint8_t *payload, size_t payload_len) {
+    int32_t fields[QS_FIELDS_MAX];
+    uint8_t message[QS_MESSAGE_BYTES];
+    uint32_t field_count;
+
+    if (qs_message_read(payload, payload_len, fields, QS_FIELDS_MAX, &field_count) != 0) {
+        return 0;
+    }
+    printf("message %u numbers", (unsigned)field_count);
+    for (uint32_t i = 0; i < field_count; i++) {
+        printf(" %ld", (long)fields[i]);
+    }
+    putchar('\n');
+
+    uint32_t number = qs_message_write(fields, QS_FIELDS_MAX, message, sizeof message);
+    if (number != 0) {
+        return refused("message write", number);
+    }
+    return memcmp(message, payload, sizeof message) == 0 ? 0 : 1;
+}
+
+static int packet_there_and_back(const uint8_t *sent, size_t sent_len) {
     uint8_t bits[QS_PACKET_MAX];
     uint8_t payload[QS_PAYLOAD_MAX];
     uint32_t bit_count;
@@ -37,7 +60,7 @@ static int there_and_back(const uint8_t *sent, size_t sent_len) {
 
     uint32_t number = qs_packet_write(sent, sent_len, bits, sizeof bits, &bit_count);
     if (number != 0) {
-        return refused("write", number);
+        return refused("packet write", number);
     }
     printf("packet  %u bits  ", (unsigned)bit_count);
     for (uint32_t i = 0; i < bit_count; i++) {
@@ -47,14 +70,17 @@ static int there_and_back(const uint8_t *sent, size_t sent_len) {
 
     number = qs_packet_read(bits, bit_count, payload, sizeof payload, &byte_count);
     if (number != 0) {
-        return refused("read", number);
+        return refused("packet read", number);
     }
     printf("payload %u bytes ", (unsigned)byte_count);
     for (uint32_t i = 0; i < byte_count; i++) {
         printf("%02X", payload[i]);
     }
     putchar('\n');
-    return byte_count == sent_len && memcmp(payload, sent, sent_len) == 0 ? 0 : 1;
+    if (byte_count != sent_len || memcmp(payload, sent, sent_len) != 0) {
+        return 1;
+    }
+    return message_there_and_back(payload, byte_count);
 }
 
 int main(int argc, char **argv) {
@@ -66,7 +92,7 @@ int main(int argc, char **argv) {
             printf("%s is no payload in hex of at most 64 bytes\n", argv[i]);
             return 1;
         }
-        status |= there_and_back(sent, (size_t)sent_len);
+        status |= packet_there_and_back(sent, (size_t)sent_len);
     }
     return status;
 }

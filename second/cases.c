@@ -4,15 +4,17 @@
 
 #include "damage.h"
 #include "faults.h"
+#include "lines.h"
 #include "refusals.h"
 #include "stream.h"
 #include "unstuffed.h"
+#include "vectors.h"
 
 #include <string.h>
 
 enum { RANDOM_PAYLOADS = 100000 };
 
-static const char *const group_names[CASE_GROUPS] = {
+const char *const case_group_names[CASE_GROUPS] = {
     [CASES_SHORT] = "every payload of one and two bytes",
     [CASES_RANDOM] = "random payloads of 1 to 21 bytes",
     [CASES_FLIPPED] = "one bit flipped",
@@ -34,23 +36,6 @@ static const char *const group_names[CASE_GROUPS] = {
     [CASES_VECTOR_PACKETS] = "vectors of packets.txt",
     [CASES_VECTOR_CHECKS] = "vectors of check-sequence.txt",
 };
-
-const char *case_group_name(enum case_group group)
-{
-    return group_names[group];
-}
-
-bool case_expects(const struct packet_case *one, uint32_t number)
-{
-    switch (one->expected) {
-    case EXPECT_ANY:
-        return true;
-    case EXPECT_REFUSAL:
-        return number != DONE;
-    default:
-        return number == one->expected;
-    }
-}
 
 /* ---- good packets, and each damaged in every way ---- */
 
@@ -143,25 +128,36 @@ void cases_run(const struct case_sink *sink)
 struct vector_stream {
     struct stream stream;
     enum case_group group;
+    vector_parse *parse;
 };
 
-static void give_vector(void *state, const struct vector *vector)
+static void give_vector(struct vector_stream *vectors, const struct vector *vector)
 {
-    struct vector_stream *vectors = state;
     const struct case_sink *sink = vectors->stream.sink;
-    const struct packet_case write = {
-        vectors->group, true, DONE, vector->payload, vector->payload_len, SECOND_PACKET_MAX, vector,
+    const struct call_case write = {
+        vectors->group, PACKET_WRITE, DONE, vector->payload, vector->payload_len, SECOND_PACKET_MAX, vector,
     };
     uint8_t bits[PACKET_ROOM];
     sink->run(sink->state, &write);
     give_packet(&vectors->stream, vectors->group, DONE, bits, packet_of(vector->payload, vector->payload_len, bits));
 }
 
+static bool give_line(void *state, const char *line)
+{
+    struct vector_stream *vectors = state;
+    struct vector vector;
+    if (!vectors->parse(line, &vector)) {
+        return false;
+    }
+    give_vector(vectors, &vector);
+    return true;
+}
+
 bool cases_run_vectors(const char *directory, const struct case_sink *sink)
 {
-    struct vector_stream packets = {{sink, {0}}, CASES_VECTOR_PACKETS};
-    struct vector_stream checks = {{sink, {0}}, CASES_VECTOR_CHECKS};
-    bool packets_read = vectors_each(directory, VECTORS_PACKETS, give_vector, &packets);
-    bool checks_read = vectors_each(directory, VECTORS_CHECKS, give_vector, &checks);
+    struct vector_stream packets = {{sink, {0}}, CASES_VECTOR_PACKETS, parse_packet_line};
+    struct vector_stream checks = {{sink, {0}}, CASES_VECTOR_CHECKS, parse_check_line};
+    bool packets_read = lines_each(directory, "packets.txt", give_line, &packets);
+    bool checks_read = lines_each(directory, "check-sequence.txt", give_line, &checks);
     return packets_read && checks_read;
 }

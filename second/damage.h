@@ -2,6 +2,7 @@
 #ifndef SECOND_DAMAGE_H
 #define SECOND_DAMAGE_H
 
+#include "cases.h"
 #include "stream.h"
 
 /* Puts eight other bits in place of the opening or the closing flag. */

@@ -1,6 +1,7 @@
 /* faults.c - makes packets with every set of faults that a packet can have. */
 #include "faults.h"
 
+#include "cases.h"
 #include "damage.h"
 #include "unstuffed.h"
 

@@ -3,24 +3,14 @@
 #ifndef SECOND_PACKET_H
 #define SECOND_PACKET_H
 
+#include "numbers.h"
+
 #include <stddef.h>
 #include <stdint.h>
 
 #define SECOND_PAYLOAD_MAX 21
 #define SECOND_PACKET_MIN 40
 #define SECOND_PACKET_MAX 236
-
-/* The numbers given back, by the table of the paper. */
-enum {
-    DONE = 0,
-    REFUSAL_NO_BIT = 10,
-    REFUSAL_LENGTH = 11,
-    REFUSAL_ROOM = 12,
-    REFUSAL_FLAG = 13,
-    REFUSAL_STUFFING = 14,
-    REFUSAL_BITS = 15,
-    REFUSAL_CHECK = 16
-};
 
 /* Both functions take what is given, what is lent and where the count goes, and return a number of the table.
  * A refusal changes nothing, not even the count; on success the bytes past the answer stay. */

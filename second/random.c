@@ -35,6 +35,11 @@ uint8_t random_byte(struct random *random)
     return (uint8_t)(random_next(random) >> 56);
 }
 
+int32_t random_number(struct random *random, int64_t lowest, int64_t highest)
+{
+    return (int32_t)(lowest + (int64_t)random_below(random, (size_t)(highest - lowest + 1)));
+}
+
 void fill_random(struct random *random, uint8_t *bytes, size_t len)
 {
     for (size_t i = 0; i < len; i++) {

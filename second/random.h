@@ -15,6 +15,7 @@ size_t random_below(struct random *random, size_t limit);
 size_t random_from_to(struct random *random, size_t first, size_t last); /* both included */
 bool random_coin(struct random *random);
 uint8_t random_byte(struct random *random);
+int32_t random_number(struct random *random, int64_t lowest, int64_t highest); /* both included, both of 32 bits */
 
 void fill_random(struct random *random, uint8_t *bytes, size_t len);
 

@@ -1,21 +1,14 @@
 /* refusals.c - makes lengths about every limit, and packets for one refusal each. */
 #include "refusals.h"
 
+#include "cases.h"
 #include "damage.h"
 #include "unstuffed.h"
+#include "vectors.h"
 
 #include <string.h>
 
 /* ---- lengths about the limits ---- */
-
-/* The next length to be tried: all up to 300, then some that would pass for short ones if cut down to 16 bits. */
-static size_t next_length(size_t length)
-{
-    if (length < WRONG_PACKET_MAX) {
-        return length + 1;
-    }
-    return length < 65536 ? 65536 : length + 20;
-}
 
 static void border_payload_lengths(struct stream *stream)
 {

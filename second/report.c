@@ -1,11 +1,11 @@
-/* report.c - prints the lines of both programs. */
+/* report.c - prints the lines of the test programs. */
 #include "report.h"
 
 #include <stdarg.h>
 #include <stdio.h>
 
-/* Enough for the longest packet, one byte for each bit; longer buffers are shown as far as this. */
-enum { HEX_BYTES_MAX = 300 };
+/* Enough for the longest packet, one byte for each bit, and for a message; longer buffers are shown as far as this. */
+enum { HEX_BYTES_MAX = 300, NUMBERS_MAX = 40 };
 
 void text_add(struct text *text, const char *format, ...)
 {
@@ -39,6 +39,16 @@ void text_add_hex(struct text *text, const uint8_t *bytes, size_t len)
     }
 }
 
+void text_add_numbers(struct text *text, const int32_t *numbers, size_t len)
+{
+    for (size_t i = 0; i < len && i < NUMBERS_MAX; i++) {
+        text_add(text, i == 0 ? "%ld" : " %ld", (long)numbers[i]);
+    }
+    if (len > NUMBERS_MAX) {
+        text_add(text, " ..");
+    }
+}
+
 void report_line(struct report *report, bool good, const struct text *text)
 {
     printf("%-8s%s\n", good ? "ok" : "FAILED", text->chars);
@@ -49,15 +59,23 @@ void report_line(struct report *report, bool good, const struct text *text)
     }
 }
 
+void report_occurrence(struct report *report, const char *name, unsigned long times)
+{
+    struct text line = {.len = 0};
+    text_add(&line, "%s: ", name);
+    text_add_count(&line, times);
+    report_line(report, times > 0, &line);
+}
+
 int report_end(const struct report *report)
 {
     printf("%u passed, %u failed\n", report->passed, report->failed);
     return report->failed == 0 ? 0 : 1;
 }
 
-struct text *group_count(struct group_result *group, const struct packet_case *one, bool good)
+struct text *group_count(struct group_result *group, bool writing, bool good)
 {
-    if (one->writing) {
+    if (writing) {
         group->written++;
     } else {
         group->read++;
@@ -92,12 +110,12 @@ static void describe_group(struct text *line, const char *name, const struct gro
     }
 }
 
-void report_groups(struct report *report, const struct group_result groups[CASE_GROUPS])
+void report_groups(struct report *report, const struct group_result *groups, const char *const *names, size_t count)
 {
-    for (enum case_group group = 0; group < CASE_GROUPS; group++) {
+    for (size_t group = 0; group < count; group++) {
         const struct group_result *result = &groups[group];
         struct text line = {.len = 0};
-        describe_group(&line, case_group_name(group), result);
+        describe_group(&line, names[group], result);
         report_line(report, result->wrong == 0 && result->written + result->read > 0, &line);
     }
 }

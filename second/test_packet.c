@@ -3,25 +3,25 @@
 #include "packet.h"
 #include "random.h"
 #include "report.h"
-#include "trial.h"
+#include "run.h"
 #include "vectors.h"
 
 #include <stdio.h>
 #include <string.h>
 
-struct test {
-    struct group_result groups[CASE_GROUPS];
-    unsigned long longest_accepted;
-    struct trial trial;
+static const struct program second = {
+    .name = "second",
+    .packet_write = second_packet_write,
+    .packet_read = second_packet_read,
 };
 
 /* ---- the stream of cases ---- */
 
 /* What was written must read as the payload, and what was read must be written to the same bits. */
-static const char *way_back_fault(const struct trial *trial, const struct packet_case *one)
+static const char *way_back_fault(const struct trial *trial, const struct call_case *one)
 {
     uint8_t back[SECOND_PACKET_MAX];
-    packet_call *call = one->writing ? second_packet_read : second_packet_write;
+    packet_call *call = case_writes(one) ? second_packet_read : second_packet_write;
     uint32_t count = 0;
     uint32_t number = call(trial_answer(trial), trial->count, back, sizeof back, &count);
     bool same = number == DONE && count == one->given_len && memcmp(back, one->given, count) == 0;
@@ -37,46 +37,41 @@ static const char *published_fault(const struct trial *trial, const struct vecto
     return vector_fault(vector, trial_answer(trial), trial->count);
 }
 
-static const char *case_fault(const struct trial *trial, const struct packet_case *one)
+static const char *packet_fault(const struct run *run, const struct call_case *one)
 {
-    const char *fault = trial_fault(trial, one);
-    if (fault == NULL && trial->number == DONE) {
-        fault = way_back_fault(trial, one);
-    }
+    const char *fault = run->trial.number == DONE ? way_back_fault(&run->trial, one) : NULL;
     if (fault == NULL && one->published != NULL) {
-        fault = published_fault(trial, one->published);
+        fault = published_fault(&run->trial, one->published);
     }
     return fault;
 }
 
-static void run_case(void *state, const struct packet_case *one)
+static void note_longest(void *notes, const struct trial *trial, const struct call_case *one)
 {
-    struct test *test = state;
-    trial_run(&test->trial, one->writing ? second_packet_write : second_packet_read, one);
-    const char *fault = case_fault(&test->trial, one);
-    struct text *words = group_count(&test->groups[one->group], one, fault == NULL);
-    if (words != NULL) {
-        text_add_case(words, one);
-        text_add(words, ": %s: ", fault);
-        text_add_trial(words, &test->trial, one);
-    }
-    if (one->group == CASES_LONGEST && !one->writing && test->trial.number == DONE) {
-        test->longest_accepted++;
-    }
+    unsigned long *longest_accepted = notes;
+    *longest_accepted += one->group == CASES_LONGEST && !case_writes(one) && trial->number == DONE;
 }
 
 static void test_cases(struct report *report, const char *directory)
 {
-    static struct test test;
-    const struct case_sink sink = {run_case, &test};
+    static struct group_result groups[CASE_GROUPS];
+    static unsigned long longest_accepted;
+    static struct run run = {
+        .tested = &second,
+        .own_fault = packet_fault,
+        .note = note_longest,
+        .notes = &longest_accepted,
+        .groups = groups,
+    };
+    const struct case_sink sink = {run_case, &run};
     struct text line = {.len = 0}, longest = {.len = 0};
     cases_run(&sink);
     bool vectors_read = cases_run_vectors(directory, &sink);
-    report_groups(report, test.groups);
+    report_groups(report, groups, case_group_names, CASE_GROUPS);
     text_add(&line, "every line of the vector files was read");
     report_line(report, vectors_read, &line);
-    text_add(&longest, "packets of 236 bits: %lu, and packets.txt says two", test.longest_accepted);
-    report_line(report, test.longest_accepted == 2, &longest);
+    text_add(&longest, "packets of 236 bits: %lu, and packets.txt says two", longest_accepted);
+    report_line(report, longest_accepted == 2, &longest);
 }
 
 /* ---- the check sequence, divided on paper ---- */

@@ -17,11 +17,10 @@ struct vector {
     long packet_bits;
 };
 
-enum vector_file { VECTORS_PACKETS, VECTORS_CHECKS };
-
-/* Calls `use` for each vector of a file in the directory. False where the file, or a line of it, cannot be read. */
-bool vectors_each(const char *directory, enum vector_file file, void (*use)(void *state, const struct vector *vector),
-                  void *state);
+/* The vector of a line of packets.txt, or of check-sequence.txt. False where the line cannot be read. */
+typedef bool vector_parse(const char *line, struct vector *vector);
+vector_parse parse_packet_line;
+vector_parse parse_check_line;
 
 /* What a written packet has other than its vector says, in words; NULL where it has everything. */
 const char *vector_fault(const struct vector *vector, const uint8_t *bits, size_t count);

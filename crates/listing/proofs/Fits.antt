@@ -1,0 +1,67 @@
+-- Numbers that have their widths, as signed words.
+-- Assumes nothing.
+use mathlib.Core.Path.{_≡_, refl, ap, _∙_}
+use mathlib.Core.Bool.{true}
+use mathlib.Core.List.{List, [], _∷_, _++_}
+use Prim.Native.Nat.{ℕ, zero, suc, _+_, _*_, _^_, _<_}
+use native.Mathlib.Nat.{lt-of-lt-of-le}
+use native.Mathlib.Omega.{arith}
+use lib.Dec.{T, ltb, ltb→lt, leb, leb→le, lit<}
+use lib.IntN.{ℤ, pos, _+ℤ_, _*ℤ_}
+use lib.ListN.{getD}
+use lib.Pow.{pow-mono}
+use mir.Facts.{toZ-ofZ, toZ-pos}
+use mir.Syntax.{w32}
+use mir.Val.{SFits, toZ, ofZ}
+use Rattle.laws.specs.Tests.{both}
+use Rattle.laws.proofs.Tests.{of-true, both-left, both-right}
+use Rattle.bits.specs.Row.{allFit}
+
+-- ---- by its place in a row
+
+abbrev widthAt : List (ℕ × ℕ) → ℕ → ℕ
+widthAt fs i = getD fs i (0, 0) .0
+
+abbrev numberAt : List (ℕ × ℕ) → ℕ → ℕ
+numberAt fs i = getD fs i (0, 0) .1
+
+pub below : (fs : List (ℕ × ℕ)) → allFit fs ≡ true → (i : ℕ) → numberAt fs i < 2 ^ widthAt fs i
+unfolding allFit
+below [] e i = lit< tt
+below (f ∷ fs) e zero = ltb→lt (f .1) (2 ^ f .0) (of-true (both-left (ltb (f .1) (2 ^ f .0)) (allFit fs) e))
+below (f ∷ fs) e (suc i) = below fs (both-right (ltb (f .1) (2 ^ f .0)) (allFit fs) e) i
+
+module _ (fs : List (ℕ × ℕ)) (e : allFit fs ≡ true) (i : ℕ) (narrow : T (leb (widthAt fs i) 31)) where
+  pub fits : SFits w32 (pos (numberAt fs i))
+  fits = record { sfits = lt-of-lt-of-le (below fs e i) (pow-mono {j = 31} (leb→le (widthAt fs i) 31 narrow)) }
+
+  pub exact : toZ w32 (numberAt fs i) ≡ pos (numberAt fs i)
+  exact = toZ-pos w32 (fits .sfits)
+
+-- ---- a row in two parts
+
+pub parts : (fs gs : List (ℕ × ℕ)) → allFit (fs ++ gs) ≡ true → (allFit fs ≡ true) × (allFit gs ≡ true)
+unfolding allFit
+parts [] gs e = (refl, e)
+parts (f ∷ fs) gs e =
+    let t = ltb (f .1) (2 ^ f .0) in
+    let p = parts fs gs (both-right t (allFit (fs ++ gs)) e) in
+    (ap (λ b. both b (allFit fs)) (both-left t (allFit (fs ++ gs)) e) ∙ p .0, p .1)
+
+-- ---- the time-out k + 2 * p, k being 2 or 3
+
+module _ (k p : ℕ) (h : k + 2 * p < 2 ^ 3) where
+  twice : pos 2 *ℤ toZ w32 p ≡ pos (2 * p)
+  twice = ap (λ (z : ℤ). pos 2 *ℤ z) (toZ-pos w32 (omega arith))
+
+  pub twice-fits : SFits w32 (pos 2 *ℤ toZ w32 p)
+  twice-fits = rw twice (record { sfits = omega arith })
+
+  sum : pos k +ℤ toZ w32 (ofZ w32 (pos 2 *ℤ toZ w32 p)) ≡ pos (k + 2 * p)
+  sum = ap (λ (z : ℤ). pos k +ℤ z) (toZ-ofZ twice-fits ∙ twice)
+
+  pub sum-fits : SFits w32 (pos k +ℤ toZ w32 (ofZ w32 (pos 2 *ℤ toZ w32 p)))
+  sum-fits = rw sum (record { sfits = omega arith })
+
+  pub sum-exact : toZ w32 (ofZ w32 (pos k +ℤ toZ w32 (ofZ w32 (pos 2 *ℤ toZ w32 p)))) ≡ pos (k + 2 * p)
+  sum-exact = toZ-ofZ sum-fits ∙ sum

@@ -1,0 +1,4 @@
+pub mod Back
+pub mod Fits
+pub mod Said
+pub mod Stored
