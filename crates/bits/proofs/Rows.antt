@@ -47,6 +47,24 @@ unfolding laid
 laid-bits [] = allBits-end
 laid-bits (f ∷ fs) = allBits-append (highFirst (f .0) (f .1)) (laid fs) (high-bits (f .0) (f .1)) (laid-bits fs)
 
+-- ---- a row whose numbers have their widths
+
+pub both-fit : (w v : ℕ) (fs : List (ℕ × ℕ)) → allFit ((w, v) ∷ fs) ≡ true → (v < 2 ^ w) × (allFit fs ≡ true)
+unfolding allFit
+both-fit w v fs e = (ltb→lt v (2 ^ w) (of-true (both-left (ltb v (2 ^ w)) (allFit fs) e)), both-right (ltb v (2 ^ w)) (allFit fs) e)
+
+both-both : (a b c : Bool) → both a (both b c) ≡ both (both a b) c
+both-both true b c = refl
+both-both false b c = refl
+
+pub fit-append : (fs gs : List (ℕ × ℕ)) → allFit (fs ++ gs) ≡ both (allFit fs) (allFit gs)
+unfolding allFit
+fit-append [] gs = refl
+fit-append (f ∷ fs) gs = ap (both (ltb (f .1) (2 ^ f .0))) (fit-append fs gs) ∙ both-both (ltb (f .1) (2 ^ f .0)) (allFit fs) (allFit gs)
+
+pub fit-both : (fs gs : List (ℕ × ℕ)) → allFit (fs ++ gs) ≡ true → (allFit fs ≡ true) × (allFit gs ≡ true)
+fit-both fs gs e = (both-left (allFit fs) (allFit gs) (sym (fit-append fs gs) ∙ e), both-right (allFit fs) (allFit gs) (sym (fit-append fs gs) ∙ e))
+
 -- ---- a row over bytes
 
 module _ (l : List ℕ) (at : ℕ) (fs : List (ℕ × ℕ)) (fits : at + widthOf fs ≤ 8 * length l) where
@@ -161,10 +179,6 @@ four-fit f a b c d =
     ∙ four-both (ltb (f .a) (2 ^ a)) (ltb (f .b) (2 ^ b)) (ltb (f .c) (2 ^ c)) (ltb (f .d) (2 ^ d))
 
 -- ---- four numbers as one
-
-both-fit : (w v : ℕ) (fs : List (ℕ × ℕ)) → allFit ((w, v) ∷ fs) ≡ true → (v < 2 ^ w) × (allFit fs ≡ true)
-unfolding allFit
-both-fit w v fs e = (ltb→lt v (2 ^ w) (of-true (both-left (ltb v (2 ^ w)) (allFit fs) e)), both-right (ltb v (2 ^ w)) (allFit fs) e)
 
 high-two : (m n a b : ℕ) → b < 2 ^ n → highFirst (m + n) (a * 2 ^ n + b) ≡ highFirst m a ++ highFirst n b
 high-two m n a b h = high-append m n (a * 2 ^ n + b) ∙ ap₂ _++_ (ap (highFirst m) (high a n h)) (sym (high-low n (a * 2 ^ n + b)) ∙ ap (highFirst n) (low a n h))

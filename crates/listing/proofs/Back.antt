@@ -19,7 +19,8 @@ use Rattle.message.specs.declared.state.SubMessage.the-variants.{Offset, Time, 
 use Rattle.message.specs.declared.state.SelfOrganised.{SelfOrganised}
 use Rattle.listing.specs.Listing.{subNumbers, numbersOf, plainOf, plainAt, reportIn, baseIn, pairsOf, subSaid, organisedIn, incrementalIn, messageIn}
 use Rattle.listing.specs.Promises.{MessageBack}
-use Rattle.listing.proofs.Fits.{below, parts}
+use Rattle.bits.proofs.Rows.{fit-both}
+use Rattle.listing.proofs.Fits.{below}
 use Rattle.listing.proofs.Said.{pairs-in, said-offset, said-time, said-slot, said-stations}
 
 -- of a time-out of three bits, k being 2 or 3
@@ -49,7 +50,7 @@ sub-back f rest at (Stations c) fit h =
 organised-back : (f rest : List ℤ) (at : ℕ) (s : SelfOrganised) → allFit (organisedRow s) ≡ true → plainAt f at ≡ s .sync → Has f (at + 1) (subNumbers (s .sub) ++ rest) → organisedIn f at ≡ s
 unfolding organisedIn
 organised-back f rest at s fit e h =
-    λ j. record { sync = e j; sub = sub-back f rest (at + 1) (s .sub) (parts ((2, s .sync) ∷ []) _ fit .1) h j }
+    λ j. record { sync = e j; sub = sub-back f rest (at + 1) (s .sub) (fit-both ((2, s .sync) ∷ []) _ fit .1) h j }
 
 -- what stays of a lent list
 abbrev left : Message → List ℤ → List ℤ
@@ -57,8 +58,8 @@ left m out = drop (length (numbersOf m)) out
 
 pub message-back : MessageBack
 unfolding messageIn over numbersOf plainOf reportIn baseIn incrementalIn
-message-back (One r s) out k fit = ap (One r) (organised-back _ (left (One r s) out) 15 s (parts (reportRow 1 r) (organisedRow s) fit .1) refl (refl, refl, refl, refl))
-message-back (Two r s) out k fit = ap (Two r) (organised-back _ (left (Two r s) out) 15 s (parts (reportRow 2 r) (organisedRow s) fit .1) refl (refl, refl, refl, refl))
+message-back (One r s) out k fit = ap (One r) (organised-back _ (left (One r s) out) 15 s (fit-both (reportRow 1 r) (organisedRow s) fit .1) refl (refl, refl, refl, refl))
+message-back (Two r s) out k fit = ap (Two r) (organised-back _ (left (Two r s) out) 15 s (fit-both (reportRow 2 r) (organisedRow s) fit .1) refl (refl, refl, refl, refl))
 message-back (Three r s) out k fit = refl
-message-back (Four b s) out k fit = ap (Four b) (organised-back _ (left (Four b s) out) 16 s (parts (baseRow b) (organisedRow s) fit .1) refl (refl, refl, refl, refl))
+message-back (Four b s) out k fit = ap (Four b) (organised-back _ (left (Four b s) out) 16 s (fit-both (baseRow b) (organisedRow s) fit .1) refl (refl, refl, refl, refl))
 message-back Other out k fit = cc

@@ -1,21 +1,20 @@
 -- Numbers that have their widths, as signed words.
 -- Assumes nothing.
-use mathlib.Core.Path.{_≡_, refl, ap, _∙_}
+use mathlib.Core.Path.{_≡_, ap, _∙_}
 use mathlib.Core.Bool.{true}
-use mathlib.Core.List.{List, [], _∷_, _++_}
+use mathlib.Core.List.{List, [], _∷_}
 use Prim.Native.Nat.{ℕ, zero, suc, _+_, _*_, _^_, _<_}
 use native.Mathlib.Nat.{lt-of-lt-of-le}
 use native.Mathlib.Omega.{arith}
-use lib.Dec.{T, ltb, ltb→lt, leb, leb→le, lit<}
+use lib.Dec.{T, leb, leb→le, lit<}
 use lib.IntN.{ℤ, pos, _+ℤ_, _*ℤ_}
 use lib.ListN.{getD}
 use lib.Pow.{pow-mono}
 use mir.Facts.{toZ-ofZ, toZ-pos}
 use mir.Syntax.{w32}
 use mir.Val.{SFits, toZ, ofZ}
-use Rattle.laws.specs.Tests.{both}
-use Rattle.laws.proofs.Tests.{of-true, both-left, both-right}
 use Rattle.bits.specs.Row.{allFit}
+use Rattle.bits.proofs.Rows.{both-fit}
 
 -- ---- by its place in a row
 
@@ -26,10 +25,9 @@ abbrev numberAt : List (ℕ × ℕ) → ℕ → ℕ
 numberAt fs i = getD fs i (0, 0) .1
 
 pub below : (fs : List (ℕ × ℕ)) → allFit fs ≡ true → (i : ℕ) → numberAt fs i < 2 ^ widthAt fs i
-unfolding allFit
 below [] e i = lit< tt
-below (f ∷ fs) e zero = ltb→lt (f .1) (2 ^ f .0) (of-true (both-left (ltb (f .1) (2 ^ f .0)) (allFit fs) e))
-below (f ∷ fs) e (suc i) = below fs (both-right (ltb (f .1) (2 ^ f .0)) (allFit fs) e) i
+below (f ∷ fs) e zero = both-fit (f .0) (f .1) fs e .0
+below (f ∷ fs) e (suc i) = below fs (both-fit (f .0) (f .1) fs e .1) i
 
 module _ (fs : List (ℕ × ℕ)) (e : allFit fs ≡ true) (i : ℕ) (narrow : T (leb (widthAt fs i) 31)) where
   pub fits : SFits w32 (pos (numberAt fs i))
@@ -37,16 +35,6 @@ module _ (fs : List (ℕ × ℕ)) (e : allFit fs ≡ true) (i : ℕ) (narrow : T
 
   pub exact : toZ w32 (numberAt fs i) ≡ pos (numberAt fs i)
   exact = toZ-pos w32 (fits .sfits)
-
--- ---- a row in two parts
-
-pub parts : (fs gs : List (ℕ × ℕ)) → allFit (fs ++ gs) ≡ true → (allFit fs ≡ true) × (allFit gs ≡ true)
-unfolding allFit
-parts [] gs e = (refl, e)
-parts (f ∷ fs) gs e =
-    let t = ltb (f .1) (2 ^ f .0) in
-    let p = parts fs gs (both-right t (allFit (fs ++ gs)) e) in
-    (ap (λ b. both b (allFit fs)) (both-left t (allFit (fs ++ gs)) e) ∙ p .0, p .1)
 
 -- ---- the time-out k + 2 * p, k being 2 or 3
 

@@ -16,13 +16,13 @@ use lib.Signed.{mag}
 use lib.ListN.{length, getD}
 use Rattle.laws.specs.Tests.{both, pick}
 use Rattle.laws.specs.Lists.{over}
-use Rattle.laws.proofs.Tests.{was-false, was-true, both-left, both-right}
+use Rattle.laws.proofs.Tests.{was-false, was-true}
 use Rattle.laws.proofs.Lists.{all-bytes}
 use Rattle.numbers.specs.declared.Refusal.the-variants.{NoRoom, UnknownId, TooWide}
 use Rattle.bits.specs.Bits.{highFirst}
 use Rattle.bits.specs.Field.{packed}
 use Rattle.bits.specs.Row.{laid, widthOf, allFit, layOver, fourRow, joinedFour}
-use Rattle.bits.proofs.Rows.{laid-append, width-append, lay-next, lay-whole, four-fits, four-bits}
+use Rattle.bits.proofs.Rows.{laid-append, width-append, fit-append, fit-both, lay-next, lay-whole, four-fits, four-bits}
 use Rattle.bits.specs.declared.reader.Four.{Four}
 use Rattle.message.specs.State.{timeOutOf, subRow, organisedRow, incrementalRow}
 use Rattle.message.specs.Signs.{unsignedOf}
@@ -44,18 +44,9 @@ use Rattle.message.specs.declared.Written.the-variants.{Done, Refused as
 
 -- ---- two rows, one after the other
 
-both-both : (a b c : Bool) → both a (both b c) ≡ both (both a b) c
-both-both true b c = refl
-both-both false b c = refl
-
 both-true : (a : Bool) → both a true ≡ a
 both-true true = refl
 both-true false = refl
-
-fit-append : (fs gs : List (ℕ × ℕ)) → allFit (fs ++ gs) ≡ both (allFit fs) (allFit gs)
-unfolding allFit
-fit-append [] gs = refl
-fit-append (f ∷ fs) gs = ap (both (ltb (f .1) (2 ^ f .0))) (fit-append fs gs) ∙ both-both (ltb (f .1) (2 ^ f .0)) (allFit fs) (allFit gs)
 
 module _ (fs gs : List (ℕ × ℕ)) where
   pub fit-no : {t : Bool} → t ≡ allFit fs → not t ≡ true → false ≡ allFit (fs ++ gs)
@@ -63,9 +54,6 @@ module _ (fs gs : List (ℕ × ℕ)) where
 
   pub fit-yes : {t u : Bool} → t ≡ allFit fs → not t ≡ false → u ≡ allFit gs → u ≡ allFit (fs ++ gs)
   fit-yes e n h = h ∙ sym (fit-append fs gs ∙ ap (λ (b : Bool). both b (allFit gs)) (sym e ∙ was-true n))
-
-  pub fit-both : allFit (fs ++ gs) ≡ true → (allFit fs ≡ true) × (allFit gs ≡ true)
-  fit-both e = (both-left (allFit fs) (allFit gs) (sym (fit-append fs gs) ∙ e), both-right (allFit fs) (allFit gs) (sym (fit-append fs gs) ∙ e))
 
   lay-more : (l : List ℕ) {l₁ l₂ : List ℕ} {i : ℕ} → widthOf fs ≡ i → i + widthOf gs ≤ 8 * length l → l₁ ≡ layOver l 0 fs → l₂ ≡ layOver l₁ i gs → l₂ ≡ layOver l 0 (fs ++ gs)
   lay-more l {i = i} w h e f =

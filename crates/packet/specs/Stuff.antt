@@ -41,9 +41,13 @@ unstuffed (suc k) (suc x ∷ xs) = suc x ∷ unstuffed k xs
 
 -- ---- a byte at once, its low bit first: what the code goes by
 
--- bit j is 1 where bits j-4 to j are ones, if those before the byte are
+-- bit j is 1 where bits j to j+4 are ones
+abbrev pub fives : ℕ → ℕ
+fives w = bitAnd (bitAnd (bitAnd w (w / 2)) (bitAnd w (w / 2) / 4)) (w / 16)
+
+-- which bits are a fifth one in a row, if those before the byte are ones
 unfoldable pub fifths : ℕ → ℕ
-fifths b = bitAnd (bitAnd (bitAnd (b * 16 + 15) ((b * 16 + 15) / 2)) (bitAnd (b * 16 + 15) ((b * 16 + 15) / 2) / 4)) b
+fifths b = fives (b * 16 + 15)
 
 -- which of them count, where so many ones may come before the one that a 0 follows: all but the lowest k
 abbrev pub maskOf : ℕ → ℕ

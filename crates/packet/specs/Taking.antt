@@ -11,7 +11,7 @@ use lib.Seq.{sets}
 use Rattle.laws.specs.Tests.{pick}
 use Rattle.bits.specs.Bits.{lowFirst, sentBits, bytesIn}
 use Rattle.packet.specs.Check.{through}
-use Rattle.packet.specs.Stuff.{legal, unstuffed}
+use Rattle.packet.specs.Stuff.{fives, legal, unstuffed}
 use Rattle.packet.specs.Sending.{aboveOf}
 use Rattle.packet.specs.declared.unstuff.Taking.{Taking}
 
@@ -40,8 +40,7 @@ leftBy tail = leftIn 5 (lowFirst 5 tail)
 
 -- of eight bits after these five, those that have five ones before them
 unfoldable pub putIn : ℕ → ℕ → ℕ
-putIn tail v =
-    bitAnd (bitAnd (bitAnd (v * 32 + tail) ((v * 32 + tail) / 2)) (bitAnd (v * 32 + tail) ((v * 32 + tail) / 2) / 4)) ((v * 32 + tail) / 16) % 256
+putIn tail v = fives (v * 32 + tail) % 256
 
 -- where only one was put in, it is 1
 abbrev pub More : ℕ → ℕ → Type 0

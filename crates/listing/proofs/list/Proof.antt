@@ -8,7 +8,7 @@ use Rattle.message.specs.Message.{reportRow, baseRow, rowOf}
 use Rattle.message.specs.State.{organisedRow, incrementalRow}
 use Rattle.message.specs.declared.Message.{Message}
 use Rattle.listing.specs.Listing.{reportNumbers, baseNumbers, organisedNumbers, incrementalNumbers, numbersOf}
-use Rattle.listing.proofs.Fits.{parts}
+use Rattle.bits.proofs.Rows.{fit-both}
 use Rattle.listing.proofs.Stored.{at-most-four, stored}
 use borrow.Author.Needs.{needs}
 use Rattle.listing.proofs.list.Statement.{statement}
@@ -24,14 +24,14 @@ put-report-requires : tie.Need-put-report-requires
 put-report-requires c κs =
     let g = c .before .before .message .given in
     let p = c .before .before .before .before .pre in
-    (p .0, parts (reportRow 1 (g .0 .0)) (organisedRow (g .0 .1 .0)) (subst Fit (g .1) (p .1)) .0)
+    (p .0, fit-both (reportRow 1 (g .0 .0)) (organisedRow (g .0 .1 .0)) (subst Fit (g .1) (p .1)) .0)
 
 put-organised-requires : tie.Need-put-organised-requires
 put-organised-requires c κs =
     let d = c .before .before in
     let g = d .before .before .before .message .given in
     let p = d .before .before .before .before .before .pre in
-    (lit< tt, omega (arith, d .put-report .kept .1 .1 .0, p .0), parts (reportRow 1 (g .0 .0)) (organisedRow (g .0 .1 .0)) (subst Fit (g .1) (p .1)) .1)
+    (lit< tt, omega (arith, d .put-report .kept .1 .1 .0, p .0), fit-both (reportRow 1 (g .0 .0)) (organisedRow (g .0 .1 .0)) (subst Fit (g .1) (p .1)) .1)
 
 enum-known-message-2 : tie.Need-enum-known-message-2
 enum-known-message-2 c = search needs
@@ -40,14 +40,14 @@ put-report-requires-2 : tie.Need-put-report-requires-2
 put-report-requires-2 c κs =
     let g = c .before .before .message2 .given in
     let p = c .before .before .before .before .pre in
-    (p .0, parts (reportRow 2 (g .0 .0)) (organisedRow (g .0 .1 .0)) (subst Fit (g .1) (p .1)) .0)
+    (p .0, fit-both (reportRow 2 (g .0 .0)) (organisedRow (g .0 .1 .0)) (subst Fit (g .1) (p .1)) .0)
 
 put-organised-requires-2 : tie.Need-put-organised-requires-2
 put-organised-requires-2 c κs =
     let d = c .before .before in
     let g = d .before .before .before .message2 .given in
     let p = d .before .before .before .before .before .pre in
-    (lit< tt, omega (arith, d .put-report2 .kept .1 .1 .0, p .0), parts (reportRow 2 (g .0 .0)) (organisedRow (g .0 .1 .0)) (subst Fit (g .1) (p .1)) .1)
+    (lit< tt, omega (arith, d .put-report2 .kept .1 .1 .0, p .0), fit-both (reportRow 2 (g .0 .0)) (organisedRow (g .0 .1 .0)) (subst Fit (g .1) (p .1)) .1)
 
 enum-known-message-3 : tie.Need-enum-known-message-3
 enum-known-message-3 c = search needs
@@ -56,14 +56,14 @@ put-report-requires-3 : tie.Need-put-report-requires-3
 put-report-requires-3 c κs =
     let g = c .before .before .message3 .given in
     let p = c .before .before .before .before .pre in
-    (p .0, parts (reportRow 3 (g .0 .0)) (incrementalRow (g .0 .1 .0)) (subst Fit (g .1) (p .1)) .0)
+    (p .0, fit-both (reportRow 3 (g .0 .0)) (incrementalRow (g .0 .1 .0)) (subst Fit (g .1) (p .1)) .0)
 
 put-incremental-requires : tie.Need-put-incremental-requires
 put-incremental-requires c κs =
     let d = c .before .before in
     let g = d .before .before .before .message3 .given in
     let p = d .before .before .before .before .before .pre in
-    (omega (arith, d .put-report3 .kept .1 .1 .0, p .0), parts (reportRow 3 (g .0 .0)) (incrementalRow (g .0 .1 .0)) (subst Fit (g .1) (p .1)) .1)
+    (omega (arith, d .put-report3 .kept .1 .1 .0, p .0), fit-both (reportRow 3 (g .0 .0)) (incrementalRow (g .0 .1 .0)) (subst Fit (g .1) (p .1)) .1)
 
 enum-known-message-4 : tie.Need-enum-known-message-4
 enum-known-message-4 c = search needs
@@ -72,14 +72,14 @@ put-base-requires : tie.Need-put-base-requires
 put-base-requires c κs =
     let g = c .before .before .message4 .given in
     let p = c .before .before .before .before .pre in
-    (p .0, parts (baseRow (g .0 .0)) (organisedRow (g .0 .1 .0)) (subst Fit (g .1) (p .1)) .0)
+    (p .0, fit-both (baseRow (g .0 .0)) (organisedRow (g .0 .1 .0)) (subst Fit (g .1) (p .1)) .0)
 
 put-organised-requires-3 : tie.Need-put-organised-requires-3
 put-organised-requires-3 c κs =
     let d = c .before .before in
     let g = d .before .before .before .message4 .given in
     let p = d .before .before .before .before .before .pre in
-    (lit< tt, omega (arith, d .put-base .kept .1 .0, p .0), parts (baseRow (g .0 .0)) (organisedRow (g .0 .1 .0)) (subst Fit (g .1) (p .1)) .1)
+    (lit< tt, omega (arith, d .put-base .kept .1 .0, p .0), fit-both (baseRow (g .0 .0)) (organisedRow (g .0 .1 .0)) (subst Fit (g .1) (p .1)) .1)
 
 enum-told : tie.Need-enum-told
 enum-told c = search needs

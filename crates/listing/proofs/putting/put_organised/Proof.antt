@@ -7,7 +7,8 @@ use lib.Seq.{sets}
 use mir.Syntax.{w32}
 use mir.Val.{toZ}
 use Rattle.listing.specs.Listing.{subNumbers}
-use Rattle.listing.proofs.Fits.{fits, exact, parts}
+use Rattle.bits.proofs.Rows.{fit-both}
+use Rattle.listing.proofs.Fits.{fits, exact}
 use borrow.Author.Needs.{needs}
 use Rattle.listing.proofs.putting.put_organised.Statement.{statement}
 use Rattle.listing.proofs.putting.put_organised.Tie as tie
@@ -28,7 +29,7 @@ put-sub-requires : tie.Need-put-sub-requires
 put-sub-requires c κs =
     let s = c .before .before in
     let a = s .args in
-    (omega (arith, s .pre .0), omega (arith, s .pre .1, length-set (a .out .now) (a .at) (toZ w32 (a .s .sync))), parts ((2, a .s .sync) ∷ []) _ (s .pre .2) .1)
+    (omega (arith, s .pre .0), omega (arith, s .pre .1, length-set (a .out .now) (a .at) (toZ w32 (a .s .sync))), fit-both ((2, a .s .sync) ∷ []) _ (s .pre .2) .1)
 
 same-length : tie.Need-same-length
 same-length c = let a = c .before .before .before .before .args in c .before .put-sub .kept .1 .0 ∙ length-set (a .out .now) (a .at) _

@@ -1,9 +1,9 @@
 use mathlib.Core.Path.{ap, _∙_}
 use native.Mathlib.Omega.{arith}
 use lib.ListN.{length}
-use Rattle.bits.proofs.Rows.{length-lay}
+use Rattle.bits.proofs.Rows.{fit-both, length-lay}
 use Rattle.message.specs.Sheet.{headFields, stateFields}
-use Rattle.message.proofs.Writings.{fit-both, whole}
+use Rattle.message.proofs.Writings.{whole}
 use borrow.Author.Needs.{needs}
 use Rattle.message.proofs.writing.put.Statement.{statement}
 use Rattle.message.proofs.writing.put.Tie as tie
