@@ -1,0 +1,5 @@
+pub mod Gaps
+pub mod Comings
+pub mod Windows
+pub mod Promised
+pub mod Examples

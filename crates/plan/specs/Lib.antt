@@ -1,0 +1,4 @@
+pub mod Plan
+pub mod Times
+pub mod Examples
+pub mod Promises
