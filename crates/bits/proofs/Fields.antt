@@ -3,17 +3,17 @@
 use mathlib.Core.Path.{_≡_, sym, ap, ap₂, _∙_}
 use mathlib.Core.Bool.{true}
 use mathlib.Core.List.{List, [], _++_, append-assoc, append-nil}
-use Prim.Native.Nat.{ℕ, zero, suc, _+_, _-_, _*_, _^_, _≤_, _<_}
+use Prim.Native.Nat.{ℕ, _+_, _-_, _*_, _%_, _^_, _≤_, _<_}
 use native.Mathlib.Nat.{mod-eq-of-lt}
 use native.Mathlib.Omega.{arith}
 use lib.ListN.{length, take, drop, length-take, length-drop, length-append, take-append-drop}
 use lib.Seq.{take-all, take-at, drop-at, drop-drop, length-take-le}
 use Rattle.laws.specs.Lists.{AllBytes}
 use Rattle.laws.proofs.Lists.{take-middle, take-within, three-parts}
-use Rattle.bits.specs.Bits.{highFirst, highValue, allBits, eights}
+use Rattle.bits.specs.Bits.{highFirst, highValue, allBits}
 use Rattle.bits.specs.Field.{bitsOf, packed, fieldOf, spliced, putField}
 use Rattle.bits.proofs.Bits.{allBits-append, allBits-take, allBits-drop, high-bits, length-highFirst, high-back, high-bound, value-high}
-use Rattle.bits.proofs.Bytes.{joined-append, length-joined, joined-bits, length-eights, eights-joined, joined-eights}
+use Rattle.bits.proofs.Bytes.{joined-append, length-joined, joined-bits, eights-joined, joined-eights}
 
 -- ---- bytes as bits and back
 
@@ -41,11 +41,6 @@ bits-packed n bits l e =
     let back : (bs : List ℕ) → length bs ≡ 8 → allBits bs ≡ true → highFirst 8 (highValue 0 bs) ≡ bs = λ bs m e. rw m at (high-back bs 0 e) in
     joined-eights (highFirst 8) (highValue 0) back n bits (omega arith) e ∙ take-all (8 * n) bits (omega arith)
 
-packed-bytes : (n : ℕ) (bits : List ℕ) → allBits bits ≡ true → AllBytes (packed n bits)
-unfolding packed eights AllBytes
-packed-bytes zero bits e = tt
-packed-bytes (suc n) bits e = (high-bound 8 bits e, packed-bytes n (drop 8 bits) (allBits-drop 8 bits e))
-
 -- ---- bits with others in the place of a part
 
 pub spliced-middle : (xs ys zs : List ℕ) (at w v : ℕ) → length xs ≡ at → length ys ≡ w → spliced (xs ++ ys ++ zs) at w v ≡ xs ++ highFirst w v ++ zs
@@ -71,13 +66,12 @@ pub field-bound : (l : List ℕ) (at w : ℕ) → fieldOf l at w < 2 ^ w
 unfolding fieldOf
 field-bound l at w = high-bound w (drop at (bitsOf l)) (allBits-drop at (bitsOf l) (bits-are l))
 
-pub length-put : (l : List ℕ) (at w v : ℕ) → length (putField l at w v) ≡ length l
-unfolding putField packed
-length-put l at w v = length-eights (highValue 0) (length l) (spliced (bitsOf l) at w v)
-
-pub put-bytes : (l : List ℕ) (at w v : ℕ) → AllBytes (putField l at w v)
-unfolding putField
-put-bytes l at w v = packed-bytes (length l) (spliced (bitsOf l) at w v) (spliced-bits (bitsOf l) at w v (bits-are l))
+-- bits that stand in the bytes are the field there
+pub field-there : (l pre post : List ℕ) (at w v : ℕ) → length pre ≡ at → bitsOf l ≡ pre ++ highFirst w v ++ post → fieldOf l at w ≡ v % 2 ^ w
+unfolding fieldOf
+field-there l pre post at w v e bits =
+    ap (λ (t : List ℕ). highValue 0 (take w (drop at t))) bits ∙ ap (highValue 0) (take-middle pre (highFirst w v) post at w e (length-highFirst w v))
+    ∙ value-high w v 0 ∙ omega arith
 
 module _ (l : List ℕ) (at w v : ℕ) (fits : at + w ≤ 8 * length l) where
   inside : at + w ≤ length (bitsOf l)
@@ -91,12 +85,8 @@ module _ (l : List ℕ) (at w v : ℕ) (fits : at + w ≤ 8 * length l) where
   front = length-take-le at (bitsOf l) (omega (arith, inside))
 
   pub get-put : v < 2 ^ w → fieldOf (putField l at w v) at w ≡ v
-  unfolding fieldOf spliced
-  get-put small =
-      ap (λ (b : List ℕ). highValue 0 (take w (drop at b))) put-bits
-      ∙ ap (highValue 0) (take-middle (take at (bitsOf l)) (highFirst w v) (drop (at + w) (bitsOf l)) at w front (length-highFirst w v))
-      ∙ value-high w v 0
-      ∙ omega (arith, mod-eq-of-lt small)
+  unfolding spliced
+  get-put small = field-there (putField l at w v) (take at (bitsOf l)) (drop (at + w) (bitsOf l)) at w v front put-bits ∙ mod-eq-of-lt small
 
   pub get-before : (i n : ℕ) → i + n ≤ at → fieldOf (putField l at w v) i n ≡ fieldOf l i n
   unfolding fieldOf spliced

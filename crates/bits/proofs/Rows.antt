@@ -3,8 +3,8 @@
 use mathlib.Core.Path.{_≡_, refl, sym, ap, ap₂, _∙_}
 use mathlib.Core.Bool.{Bool, true, false}
 use mathlib.Core.List.{List, [], _∷_, _++_, append-assoc, append-nil}
-use Prim.Native.Nat.{ℕ, zero, suc, _+_, _-_, _*_, _/_, _%_, _^_, _≤_, _<_}
-use native.Mathlib.Nat.{zero-add, zero-mul, mod-eq-of-lt, lt-of-lt-of-le}
+use Prim.Native.Nat.{ℕ, zero, suc, _+_, _*_, _/_, _%_, _^_, _≤_, _<_}
+use native.Mathlib.Nat.{zero-add, mod-eq-of-lt, lt-of-lt-of-le}
 use native.Mathlib.Decide.{decLt}
 use native.Mathlib.Omega.{arith}
 use borrow.Author.Tests.{eq-eqb, ne-eqb, lt-ltb, le-ltb}
@@ -16,14 +16,13 @@ use lib.Seq.{take-at, drop-at, drop-drop, take-add, take-append-le, drop-append-
 use Rattle.laws.specs.Tests.{both}
 use Rattle.laws.specs.Lists.{over, AllBytes}
 use Rattle.laws.proofs.Tests.{of-true, both-left, both-right}
-use Rattle.laws.proofs.Lists.{take-middle}
 use Rattle.bits.specs.Bits.{highFirst, highValue, allBits, eights}
 use Rattle.bits.specs.Field.{bitsOf, packed, fieldOf, spliced, putField}
 use Rattle.bits.specs.Row.{laid, widthOf, allFit, layOver, rowAt, widthsOf, fourRow, joinedFour}
 use Rattle.bits.specs.declared.reader.Four.{Four}
-use Rattle.bits.proofs.Bits.{allBits-end, allBits-append, allBits-take, allBits-drop, high-bits, length-highFirst, high-append, high-low, high-back, value-high}
+use Rattle.bits.proofs.Bits.{allBits-end, allBits-append, allBits-take, allBits-drop, high-bits, length-highFirst, high-append, high-low, high-back}
 use Rattle.bits.proofs.Bytes.{length-eights}
-use Rattle.bits.proofs.Fields.{length-bits, bits-are, bits-append, bits-packed, packed-bits}
+use Rattle.bits.proofs.Fields.{length-bits, bits-are, bits-append, bits-packed, packed-bits, field-there}
 
 -- ---- the bits of a row
 
@@ -245,12 +244,6 @@ module _ (f : Four) (a b c d : ℕ) (fit : allFit (fourRow f a b c d) ≡ true) 
 
 -- ---- read again
 
-field-there : (l pre post : List ℕ) (at w v : ℕ) → length pre ≡ at → bitsOf l ≡ pre ++ highFirst w v ++ post → v < 2 ^ w → fieldOf l at w ≡ v
-unfolding fieldOf
-field-there l pre post at w v e bits h =
-    ap (λ (t : List ℕ). highValue 0 (take w (drop at t))) bits ∙ ap (highValue 0) (take-middle pre (highFirst w v) post at w e (length-highFirst w v))
-    ∙ value-high w v 0 ∙ ap (_+ v % 2 ^ w) (zero-mul (2 ^ w)) ∙ zero-add (v % 2 ^ w) ∙ mod-eq-of-lt h
-
 -- what was laid is read
 pub row-laid : (fs : List (ℕ × ℕ)) (l pre post : List ℕ) (at : ℕ) → length pre ≡ at → bitsOf l ≡ pre ++ laid fs ++ post → allFit fs ≡ true
     → rowAt (widthsOf fs) at l ≡ fs
@@ -260,7 +253,7 @@ row-laid ((w, v) ∷ fs) l pre post at e bits fit =
     let f = both-fit w v fs fit in
     let seen : bitsOf l ≡ pre ++ highFirst w v ++ (laid fs ++ post) =
     bits ∙ ap (_++ post) (sym (append-assoc pre (highFirst w v) (laid fs))) ∙ append-assoc (pre ++ highFirst w v) (laid fs) post in
-    let here : fieldOf l at w ≡ v = field-there l pre (laid fs ++ post) at w v e seen (f .0) in
+    let here : fieldOf l at w ≡ v = field-there l pre (laid fs ++ post) at w v e seen ∙ mod-eq-of-lt (f .0) in
     let next : length (pre ++ highFirst w v) ≡ at + w = length-append pre (highFirst w v) ∙ ap₂ _+_ e (length-highFirst w v) in
     let more : bitsOf l ≡ pre ++ highFirst w v ++ laid fs ++ post = seen ∙ sym (append-assoc (pre ++ highFirst w v) (laid fs) post) in
     ap₂ (λ (x : ℕ) (t : List (ℕ × ℕ)). (w, x) ∷ t) here (row-laid fs l (pre ++ highFirst w v) post (at + w) next more (f .1))

@@ -10,12 +10,12 @@ use lib.ListN.{length, getD, take, drop, length-append}
 use lib.Pow.{pow-pos, pow-add, shl-exact, shr-lt, split, high, low, mod-pow-add, field, shr-shr, shl-shr}
 use lib.Seq.{sets, drop-cons, length-take-le, length-sets, sets-eq}
 use Rattle.laws.specs.Lists.{AllBytes}
-use Rattle.laws.proofs.Lists.{all-bytes, take-middle, three-parts}
+use Rattle.laws.proofs.Lists.{all-bytes, three-parts}
 use Rattle.bits.specs.Bits.{highFirst, highValue, joined}
 use Rattle.bits.specs.Field.{bitsOf, packed, fieldOf, spliced, putField, wordOf, bytesOfWord}
 use Rattle.bits.proofs.Bits.{length-highFirst, high-append, high-low, high-back, value-high, value-append}
 use Rattle.bits.proofs.Spreading.{places}
-use Rattle.bits.proofs.Fields.{length-bits, bits-are, bits-append, packed-bits, spliced-middle}
+use Rattle.bits.proofs.Fields.{length-bits, bits-are, bits-append, packed-bits, spliced-middle, field-there}
 
 -- ---- bytes as a number
 
@@ -217,14 +217,8 @@ module _ (l : List ℕ) (bytes : (i : ℕ) → getD l i 0 < 256) (s at w : ℕ) 
       ∙ ap (λ (n : ℕ). a * 2 ^ k / 2 ^ n % 2 ^ w) down ∙ ap (_% 2 ^ w) (sym (shr-shr (a * 2 ^ k) k (over s at w)) ∙ ap (_/ 2 ^ over s at w) (shl-shr a k))
 
   pub field-is : {a : ℕ} → a ≡ wordOf l s → a * 2 ^ (at - 8 * s) % 2 ^ 64 / 2 ^ (64 - w) ≡ fieldOf l at w
-  unfolding fieldOf
   field-is {a} e =
-      let m = wordOf l s / 2 ^ over s at w in
-      shifted a ∙ ap (λ (b : ℕ). b / 2 ^ over s at w % 2 ^ w) e
-      ∙ sym (ap (λ (t : List ℕ). highValue 0 (take w (drop at t))) bits-parted
-      ∙ ap (highValue 0) (take-middle lead (highFirst w m) rest at w length-lead (length-highFirst w m))
-      ∙ value-high w m 0
-      ∙ omega arith)
+      shifted a ∙ ap (λ (b : ℕ). b / 2 ^ over s at w % 2 ^ w) e ∙ sym (field-there l lead rest at w (wordOf l s / 2 ^ over s at w) length-lead bits-parted)
 
   pub put-is : (v : ℕ) → v < 2 ^ w → {out : List ℕ} {a : ℕ} → a ≡ wordOf l s
       → out ≡ sets l s (bytesOfWord (newWord s at w a v))

@@ -19,8 +19,8 @@ use Rattle.numbers.specs.declared.Refusal.the-variants.{MessageLength, UnknownI
 use Rattle.bits.specs.Field.{fieldOf}
 use Rattle.bits.proofs.Fields.{field-bound}
 use Rattle.message.specs.Signs.{signedOf}
-use Rattle.message.specs.Sheet.{clockValue}
-use Rattle.message.specs.State.{clockOf, subOf, incrementalOf, organisedOf, stateOf, StandsIn}
+use Rattle.message.specs.Sheet.{StandsIn, clockValue}
+use Rattle.message.specs.State.{clockOf, subOf, incrementalOf, organisedOf, stateOf}
 use Rattle.message.specs.Message.{idIn, reportOf, baseOf, organisedMessage, messageOf, readAnswer}
 use Rattle.message.specs.declared.state.Clock.{Clock}
 use Rattle.message.specs.declared.state.SelfOrganised.{SelfOrganised}

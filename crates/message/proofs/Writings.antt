@@ -24,9 +24,9 @@ use Rattle.bits.specs.Field.{packed}
 use Rattle.bits.specs.Row.{laid, widthOf, allFit, layOver, fourRow, joinedFour}
 use Rattle.bits.proofs.Rows.{laid-append, width-append, fit-append, fit-both, lay-next, lay-whole, four-fits, four-bits}
 use Rattle.bits.specs.declared.reader.Four.{Four}
-use Rattle.message.specs.State.{timeOutOf, subRow, organisedRow, incrementalRow}
+use Rattle.message.specs.State.{timeOutOf, subRow, organisedRow}
 use Rattle.message.specs.Signs.{unsignedOf}
-use Rattle.message.specs.Message.{reportRow, baseRow, rowOf, known, writeAnswer, bytesOf}
+use Rattle.message.specs.Message.{reportRow, baseRow, rowOf, known, writeAnswer}
 use Rattle.message.specs.Sheet.{clockValue, valueOf, organisedFour, incrementalFour, reportRows, baseRows, sheetOf, reportFields, baseFields, headFields, stateFields, fieldsIn}
 use Rattle.message.specs.declared.state.Clock.{Clock}
 use Rattle.message.specs.declared.state.SubMessage.{SubMessage}

@@ -13,7 +13,6 @@ use Rattle.numbers.specs.declared.Refusal.the-variants.{NoRoom, MessageLength, 
 use Rattle.numbers.specs.Numbers.{numberOf}
 use Rattle.bits.specs.Field.{fieldOf, packed}
 use Rattle.bits.specs.Row.{laid, allFit}
-use Rattle.bits.specs.declared.reader.Four.{Four as Numbers}
 use Rattle.message.specs.Signs.{signedOf, unsignedOf}
 use Rattle.message.specs.State.{organisedOf, incrementalOf, organisedRow, incrementalRow}
 use Rattle.message.specs.declared.Report.{Report}
@@ -39,10 +38,6 @@ writtenNumber (NotWritten r) = numberOf r
 
 unfoldable pub idIn : List ℕ → ℕ
 idIn l = fieldOf l 0 6
-
--- id, repeat, source and status
-abbrev pub HeadOf : List ℕ → Numbers → Type 0
-HeadOf l f = (f .a ≡ idIn l) × (f .b ≡ fieldOf l 6 2) × (f .c ≡ fieldOf l 8 30) × (f .d ≡ fieldOf l 38 4)
 
 unfoldable pub reportOf : List ℕ → Report
 reportOf l =

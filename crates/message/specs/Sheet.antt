@@ -1,14 +1,17 @@
--- The fields of a message four in a row, by which the code writes them: the words for the contracts in src/writing.rt and src/state.rt.
+-- The fields of a message four in a row, by which the code reads and writes them: the words for its contracts, not for what is promised.
 -- Assumes nothing.
 use Prim.Native.Nat.{ℕ, _+_, _*_}
+use mathlib.Core.Path.{_≡_}
 use mathlib.Core.Bool.{Bool, true, false}
 use mathlib.Core.List.{List, _++_}
 use lib.Dec.{leb}
 use Rattle.laws.specs.Tests.{both, pick}
+use Rattle.bits.specs.Field.{fieldOf}
 use Rattle.bits.specs.Row.{fourRow}
 use Rattle.bits.specs.declared.reader.Four.{Four}
 use Rattle.message.specs.Signs.{unsignedOf}
-use Rattle.message.specs.State.{timeOutOf}
+use Rattle.message.specs.State.{organisedOf, incrementalOf, timeOutOf}
+use Rattle.message.specs.Message.{idIn}
 use Rattle.message.specs.declared.Report.{Report}
 use Rattle.message.specs.declared.Base.{Base}
 use Rattle.message.specs.declared.Message.{Message}
@@ -18,9 +21,22 @@ use Rattle.message.specs.declared.state.SubMessage.{SubMessage}
 use Rattle.message.specs.declared.state.SubMessage.the-variants.{Offset, Time, Slot, Stations}
 use Rattle.message.specs.declared.state.SelfOrganised.{SelfOrganised}
 use Rattle.message.specs.declared.state.Incremental.{Incremental}
+use Rattle.message.specs.declared.state.State.{State}
+use Rattle.message.specs.declared.state.State.the-variants.{SelfOrganised as Organised, Incremental as Increasing}
 use Rattle.message.specs.declared.writing.Rows.{Rows}
 use Rattle.message.specs.declared.writing.Sheet.{Sheet}
 use Rattle.message.specs.declared.writing.Sheet.the-variants.{Known, Unknown}
+
+-- ---- what has been read
+
+-- id, repeat, source and status
+abbrev pub HeadOf : List ℕ → Four → Type 0
+HeadOf l f = (f .a ≡ idIn l) × (f .b ≡ fieldOf l 6 2) × (f .c ≡ fieldOf l 8 30) × (f .d ≡ fieldOf l 38 4)
+
+-- a state that stands in these bytes
+abbrev pub StandsIn : List ℕ → State → Type 0
+StandsIn l (Organised s) = s ≡ organisedOf l
+StandsIn l (Increasing s) = s ≡ incrementalOf l
 
 -- ---- the state, of widths 2, 3, 14 and 0
 

@@ -1,7 +1,6 @@
 -- The communication state: 19 bits from bit 149 on.
 -- Assumes nothing.
 use Prim.Native.Nat.{ℕ, _+_, _-_, _*_, _/_, _%_}
-use mathlib.Core.Path.{_≡_}
 use mathlib.Core.List.{List, [], _∷_}
 use lib.Dec.{eqb, leb}
 use Rattle.laws.specs.Tests.{pick}
@@ -36,11 +35,6 @@ incrementalOf l = record { sync = fieldOf l 149 2; increment = fieldOf l 151 13;
 -- message 3 alone carries the incremental state
 unfoldable pub stateOf : List ℕ → ℕ → State
 stateOf l id = pick (eqb id 3) (Increasing (incrementalOf l)) (Organised (organisedOf l))
-
--- a state that stands in these bytes
-abbrev pub StandsIn : List ℕ → State → Type 0
-StandsIn l (Organised s) = s ≡ organisedOf l
-StandsIn l (Increasing s) = s ≡ incrementalOf l
 
 -- ---- written: widths and numbers in a row
 

@@ -1,8 +1,8 @@
 // A message from its 21 bytes. Promise: it is `messageOf` the bytes (specs/Message.antt).
 ghost use mathlib.Core.Path.{_≡_};
 ghost use lib.ListN.{length};
-ghost use Rattle.message.specs.Message.{HeadOf, reportOf, baseOf, messageOf, organisedMessage};
-ghost use Rattle.message.specs.State.{StandsIn};
+ghost use Rattle.message.specs.Message.{reportOf, baseOf, messageOf, organisedMessage};
+ghost use Rattle.message.specs.Sheet.{HeadOf, StandsIn};
 use crate::Base;
 use crate::Message;
 use crate::Report;

@@ -3,8 +3,8 @@ ghost use mathlib.Core.Path.{_≡_};
 ghost use Prim.Native.Nat.{_<_};
 ghost use lib.ListN.{length};
 ghost use Rattle.bits.specs.Field.{fieldOf};
-ghost use Rattle.message.specs.State.{subOf, organisedOf, incrementalOf, stateOf, StandsIn, timeOutOf};
-ghost use Rattle.message.specs.Sheet.{clockValue, valueOf, organisedFour, incrementalFour};
+ghost use Rattle.message.specs.State.{subOf, organisedOf, incrementalOf, stateOf, timeOutOf};
+ghost use Rattle.message.specs.Sheet.{StandsIn, clockValue, valueOf, organisedFour, incrementalFour};
 use bits::reader::Four;
 use bits::reader::take_four;
 

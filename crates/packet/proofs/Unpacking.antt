@@ -7,7 +7,7 @@ use Prim.Native.Nat.{ℕ, suc, _+_, _-_, _*_, _/_, _≤_, _<_}
 use native.Mathlib.Omega.{arith}
 use borrow.Author.Tests.{eq-eqb, ne-eqb}
 use lib.ListN.{length, take, drop}
-use lib.Seq.{take-at, take-take, take-all, length-sets}
+use lib.Seq.{take-at, take-take, take-all}
 use Rattle.laws.specs.Lists.{over}
 use Rattle.laws.proofs.Lists.{stored-over}
 use Rattle.numbers.specs.declared.Refusal.the-variants.{BadStuffing, NotWhole}

@@ -1,5 +1,5 @@
 use mathlib.Core.Path.{sym, subst, _∙_}
-use Rattle.message.specs.State.{StandsIn}
+use Rattle.message.specs.Sheet.{StandsIn}
 use Rattle.message.proofs.Readings.{state-stands, message-three, message-other}
 use borrow.Author.Needs.{needs}
 use Rattle.message.proofs.reading.message_in.Statement.{statement}

@@ -1,5 +1,5 @@
 use mathlib.Core.Path.{subst}
-use Rattle.message.specs.State.{StandsIn}
+use Rattle.message.specs.Sheet.{StandsIn}
 use borrow.Author.Needs.{needs}
 use Rattle.message.proofs.state.organised_of.Statement.{statement}
 use Rattle.message.proofs.state.organised_of.Tie as tie

@@ -1,6 +1,6 @@
 use mathlib.Core.Path.{sym, ap, ap₂, _∙_}
 use Rattle.packet.specs.Sending.{aboveOf}
-use Prim.Native.Nat.{ℕ, _-_, _<_}
+use Prim.Native.Nat.{ℕ, _<_}
 use native.Mathlib.Omega.{arith}
 use lib.Bits.{bitAnd, and-le-l}
 use Rattle.packet.proofs.Unstuffing.{unstuffs-spoilt, unstuffs-twice, putIn-byte, twice-room}
