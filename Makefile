@@ -25,8 +25,10 @@ BOARD := target/staticlib/libboard.a
 COMMON := $(addprefix second/,random.c stream.c lines.c trial.c report.c tally.c run.c)
 PACKET := $(addprefix second/,packet.c unstuffed.c damage.c refusals.c faults.c cases.c vectors.c) $(COMMON)
 MESSAGE := $(addprefix second/,message.c message_vectors.c message_fields.c message_lengths.c message_cases.c message_run.c) $(COMMON)
+BOOK := $(addprefix second/,book.c hearing.c message.c book_case.c calls_by_hand.c marks_by_hand.c records_by_hand.c refusals_by_hand.c \
+	order_by_hand.c strange_by_hand.c strange_at_random.c book_model.c book_agrees.c book_said.c book_calls.c book_sequences.c random.c report.c)
 HEADERS := $(wildcard include/*.h second/*.h bench/*.h)
-TESTS := build/test_packet build/test_message
+TESTS := build/test_packet build/test_message build/test_book
 PROGRAMS := build/example $(TESTS) $(addsuffix _sanitized,$(TESTS)) build/compare_packet build/compare_message
 BENCHES := build/bench_packet build/bench_message
 
@@ -60,6 +62,7 @@ build/example: include/example.c $(HEADERS) $(BOARD)
 
 build/test_packet build/test_packet_sanitized: $(PACKET)
 build/test_message build/test_message_sanitized: $(MESSAGE)
+build/test_book build/test_book_sanitized: $(BOOK)
 build/compare_packet: $(PACKET)
 build/compare_message: $(MESSAGE)
 build/bench_packet: bench/timing.c bench/plain_packet.c bench/table_packet.c second/packet.c
