@@ -76,3 +76,9 @@ module _ {X : Type 0} (f : X → ℕ) (n : ℕ) where
 
   pub passed : (ts : List (Bool × X)) (x : X) → T (noneGives ts) → f x ≡ n → (f (ladder ts x) ≡ n) ↔ AllHold ts
   passed ts x o e = (all-held ts x (is-true o), held-all ts x e)
+
+-- where every test holds, none of their answers is given
+pub all-through : {X : Type 0} (ts : List (Bool × X)) (x : X) → AllHold ts → ladder ts x ≡ x
+all-through [] x a = refl
+all-through ((b, y) ∷ []) x a = rw a
+all-through ((b, y) ∷ u ∷ ts) x a = rw (a .0) (all-through (u ∷ ts) x (a .1))

@@ -5,3 +5,5 @@ pub mod Table
 pub mod Ladder
 pub mod Xor
 pub mod Unique
+pub mod Upto
+pub mod Counting

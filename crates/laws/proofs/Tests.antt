@@ -46,3 +46,7 @@ between-is a b n e = (leb-true a n (both-left (leb a n) (leb n b) e), leb-true n
 pub of-true : {b : Bool} → b ≡ true → T b
 of-true {b = true} e = tt
 of-true {b = false} e = subst T (sym e) tt
+
+pub not-true : (b : Bool) → (b ≡ true → ⊥) → b ≡ false
+not-true true n = absurd (n refl)
+not-true false n = refl

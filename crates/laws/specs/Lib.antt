@@ -1,3 +1,5 @@
 pub mod Tests
 pub mod Lists
 pub mod Tables
+pub mod Loops
+pub mod Counting

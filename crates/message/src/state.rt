@@ -120,7 +120,7 @@ pub fn organised_of(bytes: &[u8], state: State) -> SelfOrganised
     }
 }
 
-fn time_out(sub: SubMessage) -> u32
+pub fn time_out(sub: SubMessage) -> u32
     ensures { λ r. ⌜ r ≡ timeOutOf sub ⌝ }
 {
     match sub {

@@ -1,0 +1,6 @@
+pub mod Wide
+pub mod Steps
+pub mod Soundness
+pub mod Once
+pub mod Plans
+pub mod Promised

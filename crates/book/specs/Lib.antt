@@ -1,0 +1,5 @@
+pub mod Book
+pub mod Pass
+pub mod Sound
+pub mod Planning
+pub mod Promises

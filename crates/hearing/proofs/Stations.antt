@@ -1,0 +1,149 @@
+-- The station of a message: what is told of it, its source, and its record: where a number stands first in a list, as a loop seeks it, and
+-- that it is the lowest place.
+-- Assumes nothing.
+use mathlib.Core.Path.{_≡_, refl, sym, _∙_}
+use mathlib.Core.Bool.{Bool, true, false}
+use mathlib.Core.List.{List, [], _∷_}
+use Prim.Native.Nat.{ℕ, zero, suc, _+_, _≤_, _<_}
+use native.Mathlib.Decide.{ℕ-discrete}
+use native.Mathlib.Omega.{arith}
+use borrow.Author.Tests.{eq-eqb, ne-eqb, lt-ltb, le-ltb}
+use borrow.Author.Needs.{sfits-of}
+use mir.Syntax.{w32}
+use mir.Val.{toZ, ofZ}
+use mir.Facts.{toZ-ofZ}
+use lib.IntN.{ℤ}
+use lib.Signed.{mag}
+use lib.ListN.{length, getD, drop}
+use Rattle.laws.specs.Tests.{both}
+use Rattle.laws.proofs.Tests.{both-no}
+use Rattle.laws.proofs.Lists.{next}
+use Rattle.laws.proofs.Loops.{Fold, fold-more, fold-end}
+use Rattle.message.specs.declared.state.State.{State}
+use Rattle.ship.specs.Ship.{fairSource}
+use Rattle.hearing.specs.declared.Told.{Told}
+use Rattle.hearing.specs.declared.Told.the-variants.{Station}
+use Rattle.hearing.specs.Station.{fairOther, indexOf, recordOf}
+use Rattle.hearing.specs.Promises.{First}
+
+-- ---- what is told
+
+-- a telling by its parts
+abbrev telling : ℕ → ℕ → Bool → ℤ → ℤ → State → Told
+telling source repeat base lat lon state =
+    Station (record { source = source; repeat = repeat; base = base; latitude = lat; longitude = lon; state = state })
+
+-- a number of 32 bits, read back from its bits
+back : (z : ℤ) → mag z < 2147483648 → toZ w32 (ofZ w32 z) ≡ z
+back z h = toZ-ofZ (sfits-of h)
+
+-- a telling whose position was so read
+pub told-back : (source repeat : ℕ) (base : Bool) (lat lon : ℤ) (state : State) → mag lat < 2147483648 → mag lon < 2147483648
+    → telling source repeat base (toZ w32 (ofZ w32 lat)) (toZ w32 (ofZ w32 lon)) state ≡ telling source repeat base lat lon state
+told-back source repeat base lat lon state p q = λ j. telling source repeat base (back lat p j) (back lon q j) state
+
+-- ---- the source
+
+-- our own is none of another station
+pub fair-own : (s own : ℕ) → s ≡ own → false ≡ fairOther s own
+unfolding fairOther
+fair-own s own e = sym (simp (eq-eqb s own e, both-no))
+
+-- any other is one where it can be a source at all
+pub fair-other : (s own : ℕ) (r : Bool) → (s ≡ own → ⊥) → r ≡ fairSource s → r ≡ fairOther s own
+unfolding fairOther
+fair-other s own r n e = e ∙ sym (simp (ne-eqb s own n) (go (fairSource s)))
+  where
+    go : (b : Bool) → both b true ≡ b
+    go true = refl
+    go false = refl
+
+-- ---- where a number stands first
+
+module _ (x y : ℕ) (l : List ℕ) where
+  -- at the first place
+  here : y ≡ x → indexOf x (y ∷ l) ≡ 0
+  here e = simp (eq-eqb y x e)
+
+  -- else one place later than in the rest
+  later : (y ≡ x → ⊥) → indexOf x (y ∷ l) ≡ suc (indexOf x l)
+  later n = simp (ne-eqb y x n)
+
+-- as it is sought: i elements gone through, l left
+unfoldable pub seeking : ℕ → ℕ → List ℕ → ℕ
+seeking x i l = i + indexOf x l
+
+-- nothing gone through
+seek-start : (x : ℕ) (xs : List ℕ) → seeking x 0 xs ≡ indexOf x xs
+unfolding seeking
+seek-start x xs = omega arith
+
+-- one more element that is not x
+seek-more : (x i y : ℕ) (l : List ℕ) → (y ≡ x → ⊥) → seeking x i (y ∷ l) ≡ seeking x (i + 1) l
+unfolding seeking
+seek-more x i y l n = omega (arith, later x y l n)
+
+-- the next element is x
+seek-here : (x i y : ℕ) (l : List ℕ) → y ≡ x → seeking x i (y ∷ l) ≡ i
+unfolding seeking
+seek-here x i y l e = omega (arith, here x y l e)
+
+-- nothing left
+seek-none : (x i : ℕ) → seeking x i [] ≡ i
+unfolding seeking
+seek-none x i = omega arith
+
+-- the loop, at the head of a turn
+module _ (x : ℕ) (xs : List ℕ) (i : ℕ) (h : Fold (seeking x) 0 xs i i) where
+  -- it stands at i
+  pub found-at : i < length xs → getD xs i 0 ≡ x → i ≡ indexOf x xs
+  found-at p e = sym (seek-here x i (getD xs i 0) (drop (i + 1) xs) e) ∙ rw (next xs i p) at (h .goes) ∙ seek-start x xs
+
+  -- it does not, and the search goes on
+  pub seek-on : i < length xs → (getD xs i 0 ≡ x → ⊥) → Fold (seeking x) 0 xs (i + 1) (i + 1)
+  seek-on p n = fold-more h p (i + 1) (seek-more x i (getD xs i 0) (drop (i + 1) xs) n)
+
+  -- it stands nowhere
+  pub found-none : length xs ≤ i → i ≡ indexOf x xs
+  found-none p = sym (seek-none x i) ∙ fold-end h p ∙ seek-start x xs
+
+-- ---- the record
+
+-- i is where the source stands
+module _ (s t : List ℕ) (x i : ℕ) (e : i ≡ indexOf x s) where
+  -- one with the source
+  pub record-known : i < length s → i ≡ recordOf s t x
+  unfolding recordOf
+  record-known p = e ∙ sym (simp (lt-ltb (indexOf x s) (length s) (rw e at p)))
+
+  -- else the first with tally 0
+  pub record-idle : (r : ℕ) → length s ≤ i → r ≡ indexOf 0 t → r ≡ recordOf s t x
+  unfolding recordOf
+  record-idle r p f = f ∙ sym (simp (le-ltb (indexOf x s) (length s) (rw e at p)))
+
+-- ---- the lowest place
+
+-- x stands at no place before: a list with one element more
+module _ (x y : ℕ) (l : List ℕ) where
+  before-next : ((j : ℕ) → j < indexOf x l → getD l j 0 ≡ x → ⊥) → (j : ℕ) → Dec (y ≡ x) → j < indexOf x (y ∷ l) → getD (y ∷ l) j 0 ≡ x → ⊥
+  before-next h j (yes e) p z = omega (arith, here x y l e)
+  before-next h zero (no n) p z = n z
+  before-next h (suc j) (no n) p z = h j (omega (arith, later x y l n)) z
+
+-- and any list
+pub before-none : (x : ℕ) (l : List ℕ) (j : ℕ) → j < indexOf x l → getD l j 0 ≡ x → ⊥
+before-none x [] j p z = omega arith
+before-none x (y ∷ l) j p z = before-next x y l (before-none x l) j (ℕ-discrete y x) p z
+
+-- x stands there, if anywhere
+stands : (x : ℕ) (l : List ℕ) → indexOf x l < length l → getD l (indexOf x l) 0 ≡ x
+stands x [] p = absurd (omega arith)
+stands x (y ∷ l) p = go (ℕ-discrete y x) (stands x l)
+  where
+    go : Dec (y ≡ x) → (indexOf x l < length l → getD l (indexOf x l) 0 ≡ x) → getD (y ∷ l) (indexOf x (y ∷ l)) 0 ≡ x
+    go (yes e) h = rw (here x y l e) e
+    go (no n) h = rw (later x y l n) (h (omega (arith, later x y l n)))
+
+-- so that is the lowest place
+pub first-is : (x : ℕ) (l : List ℕ) → indexOf x l < length l → First x l (indexOf x l)
+first-is x l p = record { inside = p; there = stands x l p; lowest = before-none x l }

@@ -1,0 +1,53 @@
+use Prim.Native.Nat.{_-_}
+use lib.ListN.{length}
+use Rattle.laws.proofs.Loops.{Fold, fold-none}
+use Rattle.hearing.proofs.Stations.{seeking, found-at, seek-on, found-none}
+use borrow.Author.Needs.{needs}
+use Rattle.hearing.proofs.station.first_idle.Statement.{statement}
+use Rattle.hearing.proofs.station.first_idle.Tie as tie
+
+-- what is left still gives the place
+abbrev Inv-loop : tie.InvT-loop
+Inv-loop tallies i₀ i = Fold (seeking 0) 0 tallies i i
+
+abbrev μ-loop : tie.MeasureT-loop
+μ-loop tallies i₀ i = length tallies - i
+
+loop-holds : tie.Need-loop-holds Inv-loop μ-loop
+loop-holds c = fold-none _ _ _
+
+mul-if1 : tie.Need-mul-if1 Inv-loop μ-loop
+mul-if1 c = search needs
+
+shared-slice-read-if1 : tie.Need-shared-slice-read-if1 Inv-loop μ-loop
+shared-slice-read-if1 c = search needs
+
+returns : tie.Need-returns Inv-loop μ-loop
+returns c = found-at _ _ _ (c .before .before .before .loop .inv) (c .before .before .loop-test .taken) (c .if1 .taken)
+
+add-i : tie.Need-add-i Inv-loop μ-loop
+add-i c = search needs
+
+loop-less : tie.Need-loop-less Inv-loop μ-loop
+loop-less c = search needs
+
+loop-again : tie.Need-loop-again Inv-loop μ-loop
+loop-again c = seek-on _ _ _ (c .before .before .before .loop .inv) (c .before .before .loop-test .taken) (c .if1 .left)
+
+returns-2 : tie.Need-returns-2 Inv-loop μ-loop
+returns-2 c = found-none _ _ _ (c .before .loop .inv) (c .loop-test .left)
+
+pub first-idle-spec : {M : Type 1} → statement M
+first-idle-spec =
+    tie.close
+    (tie.spec
+    Inv-loop
+    μ-loop
+    loop-holds
+    mul-if1
+    shared-slice-read-if1
+    returns
+    add-i
+    loop-less
+    loop-again
+    returns-2)

@@ -1,0 +1,2 @@
+pub mod Ship
+pub mod Promises

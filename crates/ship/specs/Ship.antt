@@ -1,0 +1,47 @@
+-- Our own ship: which sources and positions there are, and the call that sets them.
+-- Assumes nothing.
+use Prim.Native.Nat.{ℕ}
+use mathlib.Core.Bool.{Bool, true, false}
+use mathlib.Core.List.{List, [], _∷_}
+use lib.Dec.{eqb}
+use lib.IntN.{ℤ, pos, negsuc}
+use Rattle.laws.specs.Tests.{both, pick, between, ladder}
+use Rattle.numbers.specs.declared.Refusal.the-variants.{BadSource, OutOfRange}
+use Rattle.numbers.specs.Numbers.{numberOf}
+use Rattle.message.specs.Message.{knownPlace}
+use Rattle.ship.specs.declared.Ship.{Ship}
+use Rattle.ship.specs.declared.Owned.{Owned}
+use Rattle.ship.specs.declared.Owned.the-variants.{Done, Refused}
+
+abbrev pub ownedNumber : Owned → ℕ
+ownedNumber (Done s) = 0
+ownedNumber (Refused r) = numberOf r
+
+-- a station can have this source
+unfoldable pub fairSource : ℕ → Bool
+fairSource source = between 1 999999999 source
+
+-- the position that says that it is unknown: 91 degrees north, 181 degrees east
+abbrev pub unknownShip : Ship
+unknownShip = record { source = 0; latitude = pos 54600000; longitude = pos 108600000 }
+
+unfoldable pub unknownPlace : ℤ → ℤ → Bool
+unknownPlace (pos lat) (pos lon) = both (eqb lat 54600000) (eqb lon 108600000)
+unknownPlace (pos lat) (negsuc lon) = false
+unknownPlace (negsuc lat) (pos lon) = false
+unknownPlace (negsuc lat) (negsuc lon) = false
+
+-- a position that can be our own
+unfoldable pub ownPlace : ℤ → ℤ → Bool
+ownPlace lat lon = pick (unknownPlace lat lon) true (knownPlace lat lon)
+
+unfoldable pub ownTests : ℕ → ℤ → ℤ → List (Bool × Owned)
+ownTests source lat lon =
+    (fairSource source, Refused BadSource)
+    ∷ (ownPlace lat lon, Refused OutOfRange)
+    ∷ []
+
+-- what `own` promises
+unfoldable pub ownAnswer : ℕ → ℤ → ℤ → Owned
+unfolding ownTests
+ownAnswer source lat lon = ladder (ownTests source lat lon) (Done (record { source = source; latitude = lat; longitude = lon }))
