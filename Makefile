@@ -26,9 +26,14 @@ COMMON := $(addprefix second/,random.c stream.c lines.c trial.c report.c tally.c
 PACKET := $(addprefix second/,packet.c unstuffed.c damage.c refusals.c faults.c cases.c vectors.c) $(COMMON)
 MESSAGE := $(addprefix second/,message.c message_vectors.c message_fields.c message_lengths.c message_cases.c message_run.c) $(COMMON)
 BOOK := $(addprefix second/,book.c hearing.c message.c book_case.c calls_by_hand.c marks_by_hand.c records_by_hand.c refusals_by_hand.c \
-	order_by_hand.c strange_by_hand.c strange_at_random.c book_model.c book_agrees.c book_said.c book_calls.c book_sequences.c random.c report.c)
+	order_by_hand.c strange_by_hand.c strange_at_random.c book_model.c book_agrees.c book_said.c book_calls.c book_sequences.c occurrences.c \
+	random.c report.c)
+CHOOSING := $(addprefix second/,choosing.c windows.c reporting.c book.c hearing.c message.c book_case.c choosing_case.c windows_by_hand.c \
+	window_slots_by_hand.c candidates_by_hand.c choices_by_hand.c choosing_refusals_by_hand.c reports_by_hand.c all_draws.c \
+	strange_book.c strange_choices.c strange_reports.c book_model.c book_agrees.c model_windows.c choosing_model.c choosing_notes.c \
+	choosing_drawn.c choosing_calls.c choosing_sequences.c occurrences.c random.c report.c)
 HEADERS := $(wildcard include/*.h second/*.h bench/*.h)
-TESTS := build/test_packet build/test_message build/test_book
+TESTS := build/test_packet build/test_message build/test_book build/test_choosing
 PROGRAMS := build/example $(TESTS) $(addsuffix _sanitized,$(TESTS)) build/compare_packet build/compare_message
 BENCHES := build/bench_packet build/bench_message
 
@@ -63,6 +68,7 @@ build/example: include/example.c $(HEADERS) $(BOARD)
 build/test_packet build/test_packet_sanitized: $(PACKET)
 build/test_message build/test_message_sanitized: $(MESSAGE)
 build/test_book build/test_book_sanitized: $(BOOK)
+build/test_choosing build/test_choosing_sanitized: $(CHOOSING)
 build/compare_packet: $(PACKET)
 build/compare_message: $(MESSAGE)
 build/bench_packet: bench/timing.c bench/plain_packet.c bench/table_packet.c second/packet.c

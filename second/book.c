@@ -43,6 +43,11 @@ bool second_is_known(int32_t latitude, int32_t longitude)
         && longitude <= LONGITUDE_MAX;
 }
 
+bool second_is_plan(uint32_t rate, uint32_t start)
+{
+    return rate >= 1 && rate <= RATE_MAX && start < SECOND_FRAME;
+}
+
 /* A now out of range is taken modulo its range first, so that nothing runs over. */
 size_t second_place(const struct book *book, size_t ahead)
 {
@@ -126,7 +131,7 @@ uint32_t second_plan(struct book *book, uint32_t rate, uint32_t start)
     if (!second_lengths_fit(book)) {
         return REFUSAL_LIST_LENGTH;
     }
-    if (rate < 1 || rate > RATE_MAX || start >= SECOND_FRAME) {
+    if (!second_is_plan(rate, start)) {
         return REFUSAL_RANGE;
     }
     for (size_t place = 0; place < SECOND_SLOTS; place++) {

@@ -96,6 +96,7 @@ uint32_t second_mark(struct book *book, uint16_t record, const struct announceme
 bool second_lengths_fit(const struct book *book);
 bool second_is_source(uint32_t source);
 bool second_is_known(int32_t latitude, int32_t longitude);
+bool second_is_plan(uint32_t rate, uint32_t start);
 
 /* The place in the list of the slot time so far ahead of now, 0 to 20,249. */
 size_t second_place(const struct book *book, size_t ahead);

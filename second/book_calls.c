@@ -179,8 +179,8 @@ static void call_own(struct book_run *run)
     check_call(run, CALL_OWN, second_own(&run->lent.book, source, latitude, longitude), expected);
 }
 
-/* There is no choosing yet: a slot and some frames after it are made our own as a choice would. Half of them are near
- * the present slot, where the stations' marks are. */
+/* These sequences do not choose: a slot and some frames after it are made our own as a choice would, but anywhere. Half
+ * of them are near the present slot, where the stations' marks are. */
 static void choose(struct book_run *run)
 {
     size_t first = from_to(run, 0, random_coin(&run->random) ? 2 : 2250), frames = from_to(run, 0, 7);

@@ -2,6 +2,7 @@
 #include "book_sequences.h"
 
 #include "book_calls.h"
+#include "occurrences.h"
 
 #define COUNT_OF(list) (sizeof(list) / sizeof(list)[0])
 
@@ -58,12 +59,6 @@ static void run_sequences(struct report *report, const struct traffic *traffic, 
 
 /* ---- what has to occur ---- */
 
-struct call_numbers {
-    const char *name;
-    unsigned numbers[8];
-    size_t count;
-};
-
 static const struct call_numbers call_numbers[BOOK_CALLS] = {
     [CALL_HEAR] = {"hear", {0, 17, 18, 20, 21, 22, 23}, 7},
     [CALL_HEAR_SPOKEN] = {"hear a message already read", {0, 20, 21, 22, 23, 35}, 6},
@@ -73,45 +68,10 @@ static const struct call_numbers call_numbers[BOOK_CALLS] = {
     [CALL_OWN] = {"own", {0, 21, 30}, 3},
 };
 
-static void report_numbers(struct report *report, enum book_call call)
-{
-    const struct call_numbers *expected = &call_numbers[call];
-    struct text line = {.len = 0};
-    bool good = true;
-    unsigned long given = 0, all = 0;
-    text_add(&line, "numbers of %s:", expected->name);
-    for (size_t i = 0; i < expected->count; i++) {
-        unsigned long times = run.numbers[call][expected->numbers[i]];
-        text_add(&line, i == 0 ? " " : ", ");
-        text_add_count(&line, times);
-        text_add(&line, " of %u", expected->numbers[i]);
-        good = good && times > 0;
-        given += times;
-    }
-    for (unsigned number = DONE; number < NUMBERS_END; number++) {
-        all += run.numbers[call][number];
-    }
-    report_line(report, good && given == all, &line);
-}
-
-static void report_each(struct report *report, const char *name, const unsigned long *times, size_t first, size_t end)
-{
-    struct text line = {.len = 0};
-    bool good = true;
-    text_add(&line, "%s:", name);
-    for (size_t i = first; i < end; i++) {
-        text_add(&line, i == first ? " " : ", ");
-        text_add_count(&line, times[i]);
-        text_add(&line, " of %zu", i);
-        good = good && times[i] > 0;
-    }
-    report_line(report, good, &line);
-}
-
 static void report_occurrences(struct report *report)
 {
     for (size_t call = 0; call < BOOK_CALLS; call++) {
-        report_numbers(report, (enum book_call)call);
+        report_call_numbers(report, &call_numbers[call], run.numbers[call]);
     }
     report_each(report, "ids heard", run.ids, ID_FIRST, IDS_END);
     report_each(report, "time-outs heard", run.time_outs, 0, TIME_OUTS);
