@@ -1,6 +1,6 @@
 # make run     write and read one packet through the C face, and print both
 # make test    the gate: every proof, every must-fail edit, every comparison; its last line is the sum
-# make bench   packets and messages, written and read, beside plain C, the best C by hand and the second program, as ratios
+# make bench   packets and messages, written and read, beside plain C, the best C by hand and the second program, as ratios; and choosing
 #
 # Rattle compiles for x86-64. Elsewhere what links with it is compiled for x86-64 too and runs under an emulator.
 
@@ -22,6 +22,7 @@ WARN := -std=c11 -Wall -Wextra -Werror -pedantic
 SANITIZE := -O1 -g -fsanitize=address,undefined -fno-sanitize-recover=all
 
 BOARD := target/staticlib/libboard.a
+TRIAL := target/staticlib/libtrial.a
 COMMON := $(addprefix second/,random.c stream.c lines.c trial.c report.c tally.c run.c)
 PACKET := $(addprefix second/,packet.c unstuffed.c damage.c refusals.c faults.c cases.c vectors.c) $(COMMON)
 MESSAGE := $(addprefix second/,message.c message_vectors.c message_fields.c message_lengths.c message_cases.c message_run.c) $(COMMON)
@@ -35,7 +36,7 @@ CHOOSING := $(addprefix second/,choosing.c windows.c reporting.c book.c hearing.
 HEADERS := $(wildcard include/*.h second/*.h bench/*.h)
 TESTS := build/test_packet build/test_message build/test_book build/test_choosing
 PROGRAMS := build/example $(TESTS) $(addsuffix _sanitized,$(TESTS)) build/compare_packet build/compare_message
-BENCHES := build/bench_packet build/bench_message
+BENCHES := build/bench_packet build/bench_message build/bench_choosing
 
 # the payload of the first packet of vectors/packets.txt
 PAYLOAD := $(shell sed -n '/^[^\#]/{s/ :.*//p;q;}' vectors/packets.txt)
@@ -52,6 +53,8 @@ bench: tools $(BENCHES)
 	@$(X86_RUN) build/bench_packet "$(WHERE)"
 	@echo
 	@$(X86_RUN) build/bench_message "$(WHERE)"
+	@echo
+	@$(X86_RUN) build/bench_choosing "$(WHERE)"
 
 tools:
 	@mkdir -p build
@@ -59,8 +62,8 @@ tools:
 
 programs: $(PROGRAMS)
 
-$(BOARD): crates.txt $(shell find crates -name '*.rt' -o -name '*.antt')
-	rt staticlib board
+$(BOARD) $(TRIAL): target/staticlib/lib%.a: crates.txt $(shell find crates -name '*.rt' -o -name '*.antt')
+	rt staticlib $*
 
 build/example: include/example.c $(HEADERS) $(BOARD)
 	$(X86_CC) $(WARN) $(OPT) $(X86_LINK) -o $@ include/example.c $(BOARD)
@@ -82,6 +85,9 @@ build/test_%: second/test_%.c $(HEADERS)
 
 build/compare_%: second/compare_%.c $(HEADERS) $(BOARD)
 	$(X86_CC) $(WARN) $(OPT) $(X86_LINK) -o $@ $(filter %.c,$^) $(BOARD)
+
+build/bench_choosing: bench/bench_choosing.c second/book.c second/choosing.c second/windows.c $(HEADERS) $(TRIAL)
+	$(X86_CC) $(WARN) $(OPT) -DFLAGS='"$(OPT)"' $(X86_LINK) -o $@ $(filter %.c,$^) $(TRIAL)
 
 build/bench_%: bench/bench_%.c $(HEADERS) $(BOARD)
 	$(X86_CC) $(WARN) $(OPT) -DFLAGS='"$(OPT)"' $(X86_LINK) -o $@ $(filter %.c,$^) $(BOARD)

@@ -2,5 +2,6 @@ pub mod Wide
 pub mod Steps
 pub mod Soundness
 pub mod Once
+pub mod Sizes
 pub mod Plans
 pub mod Promised

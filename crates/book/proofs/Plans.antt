@@ -6,32 +6,20 @@ use mathlib.Core.Logic.{_↔_}
 use mathlib.Core.List.{List}
 use Prim.Native.Nat.{ℕ}
 use native.Mathlib.Omega.{arith}
-use borrow.Author.Tests.{eq-eqb, ne-eqb, le-leb, leb-true}
-use lib.Dec.{T, eqb, leb}
+use borrow.Author.Tests.{le-leb, leb-true}
+use lib.Dec.{T, leb}
 use lib.ListN.{length}
 use Rattle.laws.specs.Tests.{between}
-use Rattle.laws.proofs.Tests.{both-left, both-right, both-no, between-yes, between-is, not-true}
+use Rattle.laws.proofs.Tests.{both-left, both-right, between-yes, between-is, not-true}
 use Rattle.numbers.specs.declared.Refusal.the-variants.{OtherLength, OutOfRange}
 use Rattle.plan.specs.declared.Plan.{Plan}
 use Rattle.plan.specs.Plan.{InRange}
 use Rattle.book.specs.declared.Counts.{Counts}
 use Rattle.book.specs.declared.planning.Planned.the-variants.{Done, Refused}
-use Rattle.book.specs.Book.{slotTimes, records, bookOf, countsOf}
-use Rattle.book.specs.Planning.{sized, planFits, planTests, replanned, planAnswer, Plans}
+use Rattle.book.specs.Book.{records, bookOf, countsOf}
+use Rattle.book.specs.Sizes.{sized}
+use Rattle.book.specs.Planning.{planFits, planTests, replanned, planAnswer, Plans}
 use Rattle.book.proofs.Once.{slots-are, tallies-are, counts-are}
-
-module _ (s t : List ℕ) where
-  pub other-book : (length s ≡ slotTimes → ⊥) → sized s t ≡ false
-  unfolding sized
-  other-book n = rw (ne-eqb (length s) slotTimes n)
-
-  pub other-tallies : (length t ≡ records → ⊥) → sized s t ≡ false
-  unfolding sized
-  other-tallies n = rw (ne-eqb (length t) records n) (both-no (eqb (length s) slotTimes))
-
-  pub right-sizes : length s ≡ slotTimes → length t ≡ records → sized s t ≡ true
-  unfolding sized
-  right-sizes e f = rw (eq-eqb (length s) slotTimes e, eq-eqb (length t) records f)
 
 -- what the test of a changed plan says
 module _ (p : Plan) (rate start : ℕ) (e : p .rate ≡ rate) (f : p .start ≡ start) where

@@ -14,7 +14,8 @@ use lib.Seq.{getD-set-same, getD-set-other}
 use Rattle.laws.specs.Tests.{pick}
 use Rattle.laws.specs.Counting.{count, sum}
 use Rattle.laws.proofs.Upto.{upto-keeps}
-use Rattle.laws.proofs.Counting.{hit-same, hit-other, count-set, count-le, count-at, count-replicate, sums, sum-sums, sums-count, sum-end}
+use Rattle.laws.proofs.Counting.{hit-same, hit-other, count-set, count-le, count-at, count-replicate, sum-sums, sums-count, sum-end}
+use Rattle.laws.proofs.Sums.{sums}
 use Rattle.book.specs.Book.{Book, slotTimes, records, holders, holder, kept, raised, lowered, alter, lower, raise, bookOf, putAt, markAt, freeAt}
 use Rattle.book.specs.Pass.{Moment, passed}
 use Rattle.book.specs.Sound.{Sound}

@@ -4,7 +4,7 @@ use Prim.Native.Nat.{ℕ}
 use mathlib.Core.Path.{_≡_}
 use mathlib.Core.Bool.{Bool}
 use mathlib.Core.List.{List, [], _∷_}
-use lib.Dec.{eqb, leb}
+use lib.Dec.{leb}
 use lib.ListN.{length}
 use Rattle.laws.specs.Tests.{both, between, ladder}
 use Rattle.numbers.specs.declared.Refusal.the-variants.{OtherLength, OutOfRange}
@@ -12,15 +12,12 @@ use Rattle.numbers.specs.Numbers.{numberOf}
 use Rattle.book.specs.declared.Counts.{Counts}
 use Rattle.book.specs.declared.planning.Planned.{Planned}
 use Rattle.book.specs.declared.planning.Planned.the-variants.{Done, Refused}
-use Rattle.book.specs.Book.{Book, slotTimes, records, ours, bookOf, countsOf, talliesOf, released}
+use Rattle.book.specs.Sizes.{sized}
+use Rattle.book.specs.Book.{Book, ours, bookOf, countsOf, talliesOf, released}
 
 abbrev pub plannedNumber : Planned → ℕ
 plannedNumber (Done d) = 0
 plannedNumber (Refused r) = numberOf r
-
--- book and register have their lengths
-unfoldable pub sized : List ℕ → List ℕ → Bool
-sized s t = both (eqb (length s) slotTimes) (eqb (length t) records)
 
 -- a plan of r reports from the slot s on can be
 unfoldable pub planFits : ℕ → ℕ → Bool

@@ -15,7 +15,8 @@ use Rattle.book.specs.declared.planning.Planned.the-variants.{Done}
 use Rattle.book.specs.Book.{Book, slotTimes, records, holders, place, bookOf, putAt, markAt, freeAt, released}
 use Rattle.book.specs.Pass.{Moment, passes}
 use Rattle.book.specs.Sound.{Sound}
-use Rattle.book.specs.Planning.{plannedNumber, sized, planFits, planAnswer, Plans}
+use Rattle.book.specs.Sizes.{sized}
+use Rattle.book.specs.Planning.{plannedNumber, planFits, planAnswer, Plans}
 
 -- ---- demand 3
 

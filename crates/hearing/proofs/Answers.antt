@@ -5,14 +5,13 @@ use mathlib.Core.Bool.{true, false}
 use mathlib.Core.List.{List}
 use Prim.Native.Nat.{ℕ, _+_, _≤_, _<_}
 use borrow.Author.Tests.{eq-eqb, ne-eqb, lt-ltb, le-ltb}
-use lib.Dec.{eqb, ltb}
+use lib.Dec.{ltb}
 use lib.ListN.{length}
 use Rattle.laws.specs.Tests.{ladder}
-use Rattle.laws.proofs.Tests.{both-no}
 use Rattle.numbers.specs.declared.Refusal.{Refusal}
 use Rattle.numbers.specs.declared.Refusal.the-variants.{OtherLength, BadSource, Repeated, NoRecord, BeyondBook}
 use Rattle.book.specs.declared.Standing.{Standing}
-use Rattle.book.specs.Book.{slotTimes, records, bookOf}
+use Rattle.book.specs.Book.{records, bookOf}
 use Rattle.book.proofs.Once.{slots-are, tallies-are, counts-are}
 use Rattle.hearing.specs.declared.Telling.{Telling}
 use Rattle.hearing.specs.declared.Told.{Told}
@@ -24,26 +23,6 @@ use Rattle.hearing.specs.Acts.{Act, marked, inBook, heldOf}
 use Rattle.hearing.specs.Announce.{announces}
 use Rattle.hearing.specs.Station.{fairOther}
 use Rattle.hearing.specs.Hear.{Lists, listsOf, sized, recordIn, bookTests, hearTests, bookAfter, hearingOf, hearLeft, Hears, Enters}
-
--- ---- lengths
-
-module _ (l : Lists) where
-  pub other-book : (length (l .slots) ≡ slotTimes → ⊥) → sized l ≡ false
-  unfolding sized
-  other-book n = rw (ne-eqb (length (l .slots)) slotTimes n)
-
-  pub other-tallies : (length (l .tallies) ≡ records → ⊥) → sized l ≡ false
-  unfolding sized
-  other-tallies n = rw (ne-eqb (length (l .tallies)) records n) (both-no (eqb (length (l .slots)) slotTimes))
-
-  pub other-sources : (length (l .sources) ≡ records → ⊥) → sized l ≡ false
-  unfolding sized
-  other-sources n =
-      rw (ne-eqb (length (l .sources)) records n, both-no (eqb (length (l .tallies)) records)) (both-no (eqb (length (l .slots)) slotTimes))
-
-  pub right-sizes : length (l .slots) ≡ slotTimes → length (l .tallies) ≡ records → length (l .sources) ≡ records → sized l ≡ true
-  unfolding sized
-  right-sizes e f g = rw (eq-eqb (length (l .slots)) slotTimes e, eq-eqb (length (l .tallies)) records f, eq-eqb (length (l .sources)) records g)
 
 -- ---- record and marks
 

@@ -5,8 +5,8 @@ use mathlib.Core.Path.{_≡_}
 use mathlib.Core.Bool.{Bool, true, false, not}
 use mathlib.Core.List.{List, [], _∷_}
 use lib.Dec.{eqb, ltb}
-use lib.ListN.{length, getD, set}
-use Rattle.laws.specs.Tests.{both, ladder}
+use lib.ListN.{getD, set}
+use Rattle.laws.specs.Tests.{ladder}
 use Rattle.numbers.specs.declared.Refusal.the-variants.{UnknownId, OtherLength, BadSource, Repeated, NoRecord, BeyondBook}
 use Rattle.numbers.specs.Numbers.{numberOf}
 use Rattle.message.specs.declared.Message.{Message}
@@ -18,7 +18,8 @@ use Rattle.message.specs.declared.Base.{Base}
 use Rattle.message.specs.declared.state.State.{State}
 use Rattle.message.specs.declared.state.State.the-variants.{SelfOrganised as Organised, Incremental as Increasing}
 use Rattle.book.specs.declared.Standing.{Standing}
-use Rattle.book.specs.Book.{Book, slotTimes, records, bookOf, countsOf, talliesOf}
+use Rattle.book.specs.Sizes.{allSized}
+use Rattle.book.specs.Book.{Book, records, bookOf, countsOf, talliesOf}
 use Rattle.hearing.specs.declared.Telling.{Telling}
 use Rattle.hearing.specs.declared.Told.{Told}
 use Rattle.hearing.specs.declared.Told.the-variants.{Station, Refused as NotTold}
@@ -66,8 +67,8 @@ pub record Lists : Type 0 where
 abbrev pub listsOf : List ℕ → List ℕ → List ℕ → Lists
 listsOf s t o = record { slots = s; tallies = t; sources = o }
 
-unfoldable pub sized : Lists → Bool
-sized l = both (eqb (length (l .slots)) slotTimes) (both (eqb (length (l .tallies)) records) (eqb (length (l .sources)) records))
+abbrev pub sized : Lists → Bool
+sized l = allSized (l .slots) (l .tallies) (l .sources)
 
 -- the station's record, counted from 0; its holder number is one more
 abbrev pub recordIn : Lists → Telling → ℕ

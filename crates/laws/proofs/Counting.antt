@@ -3,13 +3,13 @@
 use mathlib.Core.Path.{_≡_, refl, sym}
 use mathlib.Core.List.{List, [], _∷_, _++_}
 use Prim.Native.Nat.{ℕ, zero, suc, _+_, _*_, _≤_, _<_, zero-le}
-use native.Mathlib.Nat.{not-suc-le-zero, le-of-suc-le-suc, suc-ne-zero, suc-mul}
+use native.Mathlib.Nat.{not-suc-le-zero, le-of-suc-le-suc, suc-mul}
 use native.Mathlib.Decide.{ℕ-discrete}
 use native.Mathlib.Omega.{arith}
 use lib.ListN.{length, getD, set, replicate}
-use lib.Dec.{eqb·suc-suc}
 use borrow.Author.Tests.{eq-eqb, ne-eqb}
 use Rattle.laws.specs.Counting.{one, hit, count, sum}
+use Rattle.laws.proofs.Sums.{sums, sums-add, sums-zero, sums-one, sums-front}
 
 pub hit-same : (h x : ℕ) → x ≡ h → hit h x ≡ 1
 unfolding hit one
@@ -57,38 +57,12 @@ sum-end (y ∷ t) x = omega (arith, sum-end t x)
 
 -- ---- all numbers below n together
 
--- c 0 + .. + c (n - 1)
-abbrev pub sums : (ℕ → ℕ) → ℕ → ℕ
-sums c zero = 0
-sums c (suc n) = c 0 + sums (λ h. c (suc h)) n
-
 pub sum-sums : (t : List ℕ) (c : ℕ → ℕ) → ((h : ℕ) → h < length t → getD t h 0 ≡ c h) → sum t ≡ sums c (length t)
-sum-sums [] c p = refl
-sum-sums (x ∷ t) c p = omega (arith, p 0 (omega arith), sum-sums t (λ h. c (suc h)) (λ h l. p (suc h) (omega arith)))
-
-sums-add : (c d : ℕ → ℕ) (n : ℕ) → sums (λ h. c h + d h) n ≡ sums c n + sums d n
-sums-add c d zero = refl
-sums-add c d (suc n) = omega (arith, sums-add (λ h. c (suc h)) (λ h. d (suc h)) n)
-
-sums-zero : (c : ℕ → ℕ) (n : ℕ) → ((h : ℕ) → c h ≡ 0) → sums c n ≡ 0
-sums-zero c zero z = refl
-sums-zero c (suc n) z = omega (arith, z 0, sums-zero (λ h. c (suc h)) n (λ h. z (suc h)))
-
-sums-ext : (c d : ℕ → ℕ) (n : ℕ) → ((h : ℕ) → c h ≡ d h) → sums c n ≡ sums d n
-sums-ext c d zero z = refl
-sums-ext c d (suc n) z = omega (arith, z 0, sums-ext (λ h. c (suc h)) (λ h. d (suc h)) n (λ h. z (suc h)))
-
-hit-suc : (h x : ℕ) → hit (suc h) (suc x) ≡ hit h x
-unfolding hit
-hit-suc h x = rw (eqb·suc-suc x h)
-
-sums-hit : (x n : ℕ) → x < n → sums (λ h. hit h x) n ≡ 1
-sums-hit x zero p = absurd (not-suc-le-zero p)
-sums-hit zero (suc n) p = omega (arith, hit-same 0 0 refl, sums-zero (λ h. hit (suc h) 0) n (λ h. hit-other (suc h) 0 (λ e. suc-ne-zero h (sym e))))
-sums-hit (suc x) (suc n) p =
-    omega (arith, hit-other 0 (suc x) (suc-ne-zero x), sums-ext (λ h. hit (suc h) (suc x)) (λ h. hit h x) n (λ h. hit-suc h x), sums-hit x n (le-of-suc-le-suc p))
+sum-sums [] c p = sym (sums-zero c 0 (λ i l. absurd (not-suc-le-zero l)))
+sum-sums (x ∷ t) c p =
+    omega (arith, p 0 (omega arith), sum-sums t (λ h. c (suc h)) (λ h l. p (suc h) (omega arith)), sums-front c (length t))
 
 pub sums-count : (n : ℕ) (l : List ℕ) → ((at : ℕ) → at < length l → getD l at 0 < n) → sums (λ h. count h l) n ≡ length l
-sums-count n [] p = sums-zero (λ h. 0) n (λ h. refl)
+sums-count n [] p = sums-zero (λ h. 0) n (λ h l. refl)
 sums-count n (x ∷ l) p =
-    omega (arith, sums-add (λ h. hit h x) (λ h. count h l) n, sums-hit x n (p 0 (omega arith)), sums-count n l (λ at q. p (suc at) (omega arith)))
+    omega (arith, sums-add (λ h. hit h x) (λ h. count h l) n, sums-one (λ h. hit h x) n x (p 0 (omega arith)) (hit-same x x refl) (λ h m e. hit-other h x (λ q. e (sym q))), sums-count n l (λ at q. p (suc at) (omega arith)))

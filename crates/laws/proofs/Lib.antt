@@ -7,3 +7,6 @@ pub mod Xor
 pub mod Unique
 pub mod Upto
 pub mod Counting
+pub mod Sums
+pub mod Those
+pub mod Ranges

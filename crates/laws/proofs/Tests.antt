@@ -5,7 +5,7 @@ use mathlib.Core.Bool.{Bool, true, false, not}
 use Prim.Native.Nat.{ℕ, _≤_, _<_}
 use borrow.Author.Tests.{le-leb, lt-leb, leb-true}
 use lib.Dec.{T, leb}
-use Rattle.laws.specs.Tests.{both, between}
+use Rattle.laws.specs.Tests.{both, either, between}
 
 pub is-true : {b : Bool} → T b → b ≡ true
 is-true {b = true} t = refl
@@ -50,3 +50,7 @@ of-true {b = false} e = subst T (sym e) tt
 pub not-true : (b : Bool) → (b ≡ true → ⊥) → b ≡ false
 not-true true n = absurd (n refl)
 not-true false n = refl
+
+pub either-false : (b : Bool) → either b false ≡ b
+either-false true = refl
+either-false false = refl

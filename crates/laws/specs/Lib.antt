@@ -3,3 +3,4 @@ pub mod Lists
 pub mod Tables
 pub mod Loops
 pub mod Counting
+pub mod Ranges

@@ -1,7 +1,8 @@
+use Rattle.book.proofs.Sizes.{other-book, other-tallies, right-sizes}
 use mathlib.Core.Path.{refl, _∙_}
 use Rattle.laws.proofs.Tests.{was-false, was-true}
 use Rattle.book.specs.Planning.{replanned}
-use Rattle.book.proofs.Plans.{other-book, other-tallies, right-sizes, fits-is, plan-20, plan-30, plans-done}
+use Rattle.book.proofs.Plans.{fits-is, plan-20, plan-30, plans-done}
 use borrow.Author.Needs.{needs}
 use Rattle.book.proofs.planning.plan.Statement.{statement}
 use Rattle.book.proofs.planning.plan.Tie as tie

@@ -1,0 +1,9 @@
+pub mod Cuts
+pub mod Ranking
+pub mod Four
+pub mod Draws
+pub mod Keys
+pub mod Slots
+pub mod Listing
+pub mod Promised
+pub mod Examples

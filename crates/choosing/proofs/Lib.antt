@@ -1,0 +1,5 @@
+pub mod Owning
+pub mod Meaning
+pub mod Answers
+pub mod Replacing
+pub mod Promised

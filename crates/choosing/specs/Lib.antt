@@ -1,0 +1,3 @@
+pub mod Own
+pub mod Choosing
+pub mod Promises

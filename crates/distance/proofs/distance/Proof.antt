@@ -1,0 +1,36 @@
+-- `distance::distance` meets its contract: both gaps are small, and their sum is the distance.
+-- Assumes nothing.
+use mathlib.Core.Path.{ap, _∙_}
+use native.Mathlib.Omega.{arith}
+use borrow.Author.Needs.{needs}
+use Rattle.ship.proofs.Places.{read-back}
+use Rattle.distance.specs.Distance.{apart, round, distance}
+use Rattle.distance.proofs.Signs.{apart-small, round-le}
+use Rattle.distance.proofs.distance.Statement.{statement}
+use Rattle.distance.proofs.distance.Tie as tie
+
+gap-requires : tie.Need-gap-requires
+gap-requires c κs = search needs
+
+gap-requires-2 : tie.Need-gap-requires-2
+gap-requires-2 c κs = search needs
+
+short-way-requires : tie.Need-short-way-requires
+short-way-requires c κs = search needs
+
+add-result : tie.Need-add-result
+add-result c =
+    let f = c .before .before .before .fits in
+    let a = c .before .before .gap .ensures ∙ read-back apart (f .latitude) (f .north) in
+    omega (arith, a, apart-small _ _ (f .latitude) (f .north), c .short-way .ensures, round-le (c .before .gap2 .result))
+
+returns : tie.Need-returns
+unfolding distance
+returns c =
+    let f = c .before .before .before .fits in
+    let a = c .before .before .gap .ensures ∙ read-back apart (f .latitude) (f .north) in
+    let b = c .short-way .ensures ∙ ap round (c .before .gap2 .ensures ∙ read-back apart (f .longitude) (f .east)) in
+    omega (arith, a, b)
+
+pub distance-spec : {M : Type 1} → statement M
+distance-spec = tie.close (tie.spec gap-requires gap-requires-2 short-way-requires add-result returns)

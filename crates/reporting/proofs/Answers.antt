@@ -1,0 +1,94 @@
+-- The sub-message and the answers of a report, by what was found out.
+-- Assumes nothing.
+use mathlib.Core.Path.{_≡_, sym, ap, _∙_}
+use mathlib.Core.Bool.{true, false}
+use mathlib.Core.List.{List}
+use Prim.Native.Nat.{ℕ, _-_, _/_, _%_, _≤_, _<_}
+use borrow.Author.Tests.{eq-eqb, ne-eqb, le-leb, lt-leb}
+use lib.Dec.{leb}
+use lib.ListN.{getD}
+use Rattle.laws.proofs.Tests.{both-no}
+use Rattle.numbers.specs.declared.Refusal.the-variants.{OtherLength, NoPlan, OutOfRange, NotOwn}
+use Rattle.message.specs.declared.state.SubMessage.the-variants.{Offset, Time, Slot, Stations}
+use Rattle.plan.specs.declared.Plan.{Plan}
+use Rattle.book.specs.Book.{ours, place}
+use Rattle.book.specs.Sizes.{sized}
+use Rattle.book.specs.Planning.{planFits}
+use Rattle.reporting.specs.declared.Time.{Time as Hour}
+use Rattle.reporting.specs.declared.Reported.the-variants.{Done, Refused}
+use Rattle.reporting.specs.Report.{ownAt, timeOut, offsetOf, heardStations, subMessage, timeFits, reportTests, reportAnswer}
+
+module _ (slots tallies : List ℕ) (present : ℕ) (p : Plan) (time : Hour) where
+  -- ---- the sub-message with the time-out n
+
+  module _ (n : ℕ) where
+    pub say-offset : (v : ℕ) → n ≡ 0 → v ≡ offsetOf slots present p → Offset v ≡ subMessage slots tallies present p time n
+    unfolding subMessage
+    say-offset v e f = ap Offset f ∙ sym (simp (eq-eqb n 0 e))
+
+    module _ (some : n ≡ 0 → ⊥) where
+      pub say-time : n ≡ 1 → Time (record { hour = time .hour; minute = time .minute; unused = 0 }) ≡ subMessage slots tallies present p time n
+      unfolding subMessage
+      say-time e = sym (simp (ne-eqb n 0 some, eq-eqb n 1 e))
+
+      module _ (more : n ≡ 1 → ⊥) where
+        pub say-slot : n % 2 ≡ 0 → Slot (record { pairs = (n - 2) / 2; number = present % 2250 }) ≡ subMessage slots tallies present p time n
+        unfolding subMessage
+        say-slot e = sym (simp (ne-eqb n 0 some, ne-eqb n 1 more, eq-eqb (n % 2) 0 e))
+
+        pub say-stations : (v : ℕ) → (n % 2 ≡ 0 → ⊥) → v ≡ heardStations tallies
+            → Stations (record { pairs = (n - 3) / 2; number = v }) ≡ subMessage slots tallies present p time n
+        unfolding subMessage
+        say-stations v odd f =
+            ap (λ (x : ℕ). Stations (record { pairs = (n - 3) / 2; number = x })) f
+            ∙ sym (simp (ne-eqb n 0 some, ne-eqb n 1 more, ne-eqb (n % 2) 0 odd))
+
+  -- ---- the answer, by the tests
+
+  pub report-20 : sized slots tallies ≡ false → Refused OtherLength ≡ reportAnswer slots tallies present p time
+  unfolding reportAnswer reportTests
+  report-20 e = rw e
+
+  module _ (e : sized slots tallies ≡ true) where
+    pub report-31 : planFits (p .rate) (p .start) ≡ false → Refused NoPlan ≡ reportAnswer slots tallies present p time
+    unfolding reportAnswer reportTests
+    report-31 f = rw (e, f)
+
+    module _ (f : planFits (p .rate) (p .start) ≡ true) where
+      pub report-30 : timeFits time ≡ false → Refused OutOfRange ≡ reportAnswer slots tallies present p time
+      unfolding reportAnswer reportTests
+      report-30 g = rw (e, f, g)
+
+      module _ (g : timeFits time ≡ true) where
+        pub report-36 : ownAt slots present 0 ≡ false → Refused NotOwn ≡ reportAnswer slots tallies present p time
+        unfolding reportAnswer reportTests
+        report-36 h = rw (e, f, g, h)
+
+        pub report-done : (n : ℕ) → ownAt slots present 0 ≡ true → n ≡ timeOut slots present
+            → Done (subMessage slots tallies present p time n) ≡ reportAnswer slots tallies present p time
+        unfolding reportAnswer reportTests
+        report-done n h k = rw (e, f, g, h, k)
+
+-- ---- what the tests say
+
+module _ (time : Hour) where
+  pub late-hour : 23 < time .hour → timeFits time ≡ false
+  unfolding timeFits
+  late-hour l = rw (lt-leb (time .hour) 23 l)
+
+  pub late-minute : 59 < time .minute → timeFits time ≡ false
+  unfolding timeFits
+  late-minute l = rw (lt-leb (time .minute) 59 l) (both-no (leb (time .hour) 23))
+
+  pub right-time : time .hour ≤ 23 → time .minute ≤ 59 → timeFits time ≡ true
+  unfolding timeFits
+  right-time l k = rw (le-leb (time .hour) 23 l, le-leb (time .minute) 59 k)
+
+module _ (slots : List ℕ) (present at : ℕ) (e : at ≡ place present 0) where
+  pub other-now : (getD slots at 0 ≡ ours → ⊥) → ownAt slots present 0 ≡ false
+  unfolding ownAt
+  other-now n = ne-eqb (getD slots (place present 0) 0) ours (rw e at n)
+
+  pub own-now : getD slots at 0 ≡ ours → ownAt slots present 0 ≡ true
+  unfolding ownAt
+  own-now h = eq-eqb (getD slots (place present 0) 0) ours (rw e at h)

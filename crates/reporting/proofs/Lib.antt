@@ -1,0 +1,4 @@
+pub mod Looking
+pub mod Offsets
+pub mod Answers
+pub mod Promised

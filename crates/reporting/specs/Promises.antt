@@ -1,0 +1,67 @@
+-- What is promised of the report, beyond what the call's contract says. Proved in proofs/Promised.antt.
+-- Assumes nothing.
+use Prim.Native.Nat.{ℕ, _+_, _-_, _*_, _%_, _≤_, _<_}
+use mathlib.Core.Path.{_≡_}
+use mathlib.Core.Bool.{true, false}
+use mathlib.Core.Logic.{_↔_}
+use mathlib.Core.List.{List}
+use Rattle.plan.specs.declared.Plan.{Plan}
+use Rattle.plan.specs.Plan.{InRange, InWindow, first, since, slots as windowSlots}
+use Rattle.book.specs.Sizes.{sized}
+use Rattle.book.specs.Planning.{planFits}
+use Rattle.message.specs.State.{timeOutOf}
+use Rattle.reporting.specs.declared.Time.{Time}
+use Rattle.reporting.specs.declared.Reported.{Reported}
+use Rattle.reporting.specs.Report.{reportedNumber, ownAt, timeOut, offsetOf, subMessage, timeFits, reportAnswer}
+
+-- no second answer meets the contract
+abbrev pub ReportOnce : Type 0
+ReportOnce =
+    (slots tallies : List ℕ) (present : ℕ) (p : Plan) (time : Time) (r r′ : Reported)
+    → r ≡ reportAnswer slots tallies present p time → r′ ≡ reportAnswer slots tallies present p time → r ≡ r′
+
+-- each number is given exactly when; 0 is none
+pub record ReportExactly (slots tallies : List ℕ) (present : ℕ) (p : Plan) (time : Time) : Type 0 where
+  pub given-20 : (reportedNumber (reportAnswer slots tallies present p time) ≡ 20) ↔ (sized slots tallies ≡ false)
+  pub given-31 : (reportedNumber (reportAnswer slots tallies present p time) ≡ 31)
+      ↔ ((sized slots tallies ≡ true) × (planFits (p .rate) (p .start) ≡ false))
+  pub given-30 : (reportedNumber (reportAnswer slots tallies present p time) ≡ 30)
+      ↔ ((sized slots tallies ≡ true) × ((planFits (p .rate) (p .start) ≡ true) × (timeFits time ≡ false)))
+  pub given-36 : (reportedNumber (reportAnswer slots tallies present p time) ≡ 36)
+      ↔ ((sized slots tallies ≡ true) × ((planFits (p .rate) (p .start) ≡ true) × ((timeFits time ≡ true) × (ownAt slots present 0 ≡ false))))
+  pub given-0 : (reportedNumber (reportAnswer slots tallies present p time) ≡ 0)
+      ↔ ((sized slots tallies ≡ true) × ((planFits (p .rate) (p .start) ≡ true) × ((timeFits time ≡ true) × (ownAt slots present 0 ≡ true))))
+
+-- ---- the time-out that the sub-message has is the number of frames in a row
+
+abbrev pub TimeOutSaid : Type 0
+TimeOutSaid =
+    (slots tallies : List ℕ) (present : ℕ) (p : Plan) (time : Time) (n : ℕ) → timeOutOf (subMessage slots tallies present p time n) ≡ n
+
+-- so many frames are own, and the next one is not, or there are seven
+pub record FramesOwn (slots : List ℕ) (present : ℕ) : Type 0 where
+  pub most : timeOut slots present ≤ 7
+  pub own : (i : ℕ) → 1 ≤ i → i ≤ timeOut slots present → ownAt slots present (2250 * i) ≡ true
+  pub ends : timeOut slots present < 7 → ownAt slots present (2250 * (timeOut slots present + 1)) ≡ false
+
+abbrev pub FramesAreOwn : Type 0
+FramesAreOwn = (slots : List ℕ) (present : ℕ) → FramesOwn slots present
+
+-- ---- the offset is the first own mark of the next coming, or 0
+
+-- where now lies in the window of k, whose next coming starts a ahead
+pub record OffsetFinds (slots : List ℕ) (present : ℕ) (p : Plan) (a : ℕ) : Type 0 where
+  pub none : offsetOf slots present p ≡ 0 → (d : ℕ) → a ≤ d → d < a + windowSlots p → ownAt slots present d ≡ false
+  pub from : 0 < offsetOf slots present p → a ≤ offsetOf slots present p
+  pub to : 0 < offsetOf slots present p → offsetOf slots present p < a + windowSlots p
+  pub own : 0 < offsetOf slots present p → ownAt slots present (offsetOf slots present p) ≡ true
+  pub first : (d : ℕ) → a ≤ d → d < offsetOf slots present p → ownAt slots present d ≡ false
+
+abbrev pub OffsetInWindow : Type 0
+OffsetInWindow =
+    (slots : List ℕ) (present : ℕ) (p : Plan) (k : ℕ) → InRange p → InWindow p k (present % 2250)
+    → OffsetFinds slots present p (2250 - since (first p k) (present % 2250))
+
+abbrev pub OffsetOutside : Type 0
+OffsetOutside =
+    (slots : List ℕ) (present : ℕ) (p : Plan) → ((k : ℕ) → InWindow p k (present % 2250) → ⊥) → offsetOf slots present p ≡ 0

@@ -1,0 +1,88 @@
+// What a report looks up in the book and the register. Promise: as specs/Report.antt says.
+ghost use mathlib.Core.Path.{_≡_};
+ghost use Prim.Native.Nat.{_+_, _≤_, _<_};
+ghost use lib.Dec.{ltb};
+ghost use lib.ListN.{length};
+ghost use Rattle.laws.specs.Counting.{one};
+ghost use Rattle.plan.specs.Plan.{InRange};
+ghost use Rattle.book.specs.Book.{slotTimes};
+ghost use Rattle.reporting.specs.Report.{ownAt, timeOut, firstOwn, offsetOf, heardStations};
+use book::FRAME;
+use book::OWN;
+use book::place;
+use plan::Lies;
+use plan::Plan;
+
+// Whether the time d ahead is ours.
+fn own_at(book: &[u16], present: usize, d: usize) -> bool
+    requires { ⌜ (length (now book) ≡ slotTimes) × (d < slotTimes) ⌝ }
+    ensures { λ r. ⌜ r ≡ ownAt (now (book .entry)) present d ⌝ }
+{
+    let at = place(present, d);
+    book[at] == OWN
+}
+
+// In how many frames in a row, from the next one on, the present slot is ours; at most 7.
+pub fn frames_own(book: &[u16], present: usize) -> usize
+    requires { ⌜ length (now book) ≡ slotTimes ⌝ }
+    ensures { λ r. ⌜ r ≡ timeOut (now (book .entry)) present ⌝ }
+{
+    let mut i: usize = 0;
+    while i < 7 {
+        if !own_at(book, present, FRAME * (i + 1)) {
+            return i;
+        }
+        i += 1;
+    }
+    i
+}
+
+// The distance of the first of the n times from d ahead on that is ours, or 0.
+fn first_own(book: &[u16], present: usize, d: usize, n: usize) -> usize
+    requires { ⌜ (length (now book) ≡ slotTimes) × (d + n ≤ slotTimes) ⌝ }
+    ensures { λ r. ⌜ r ≡ firstOwn (now (book .entry)) present d n ⌝ }
+{
+    let mut i: usize = 0;
+    while i < n {
+        if own_at(book, present, d + i) {
+            return d + i;
+        }
+        i += 1;
+    }
+    0
+}
+
+// The distance to the first own mark in the next coming of the window that now lies in; 0 if there is no such mark or window.
+pub fn next_own(book: &[u16], present: usize, p: Plan) -> usize
+    requires { ⌜ (length (now book) ≡ slotTimes) × InRange p ⌝ }
+    ensures { λ r. ⌜ r ≡ offsetOf (now (book .entry)) present p ⌝ }
+{
+    let slot = (present % FRAME) as u16;
+    match p.window_of(slot) {
+        Lies::Outside => 0,
+        Lies::In(k) => {
+            let since = (slot + 2250 - p.first(k)) % 2250;
+            first_own(book, present, 2250 - since as usize, p.slots() as usize)
+        }
+    }
+}
+
+// 1 where a tally is above 0, else 0.
+fn heard_bit(tally: u16) -> usize
+    ensures { λ r. ⌜ r ≡ one (ltb 0 tally) ⌝ }
+{
+    if tally > 0 { 1 } else { 0 }
+}
+
+// How many records have a tally above 0.
+pub fn stations(tallies: &[u16]) -> usize
+    ensures { λ r. ⌜ r ≡ heardStations (now (tallies .entry)) ⌝ }
+{
+    let mut n: usize = 0;
+    let mut i: usize = 0;
+    while i < tallies.len() {
+        n += heard_bit(tallies[i]);
+        i += 1;
+    }
+    n
+}
