@@ -32,10 +32,18 @@ BOOK := $(addprefix second/,book.c hearing.c message.c book_case.c calls_by_hand
 CHOOSING := $(addprefix second/,choosing.c windows.c reporting.c book.c hearing.c message.c book_case.c choosing_case.c windows_by_hand.c \
 	window_slots_by_hand.c candidates_by_hand.c choices_by_hand.c choosing_refusals_by_hand.c reports_by_hand.c all_draws.c \
 	strange_book.c strange_choices.c strange_reports.c book_model.c book_agrees.c model_windows.c choosing_model.c choosing_notes.c \
-	choosing_drawn.c choosing_calls.c choosing_sequences.c occurrences.c random.c report.c)
+	choosing_drawn.c choosing_calls.c choosing_sequences.c drawn_position.c occurrences.c random.c report.c)
+RUN_BOOK := $(addprefix second/,book.c hearing.c message.c choosing.c windows.c)
+RUN_LOG := $(addprefix second/,journal.c log_record.c log_streams.c) $(RUN_BOOK)
+LOG_TEXT := $(addprefix second/,record_text.c log_record.c log_streams.c lines.c)
+LOGS := $(addprefix second/,logs.c log_maker.c log_maker_hearing.c log_maker_choosing.c log_maker_strange.c drawn_position.c book_case.c \
+	random.c report.c)
+JOURNAL := $(sort $(RUN_LOG) $(LOG_TEXT) $(LOGS) $(addprefix second/,log_case.c log_records_by_hand.c log_lines_by_hand.c \
+	log_cuts_by_hand.c log_text_by_hand.c log_notes.c log_sequences.c model_windows.c occurrences.c))
 HEADERS := $(wildcard include/*.h second/*.h bench/*.h)
-TESTS := build/test_packet build/test_message build/test_book build/test_choosing
-PROGRAMS := build/example $(TESTS) $(addsuffix _sanitized,$(TESTS)) build/compare_packet build/compare_message
+TESTS := build/test_packet build/test_message build/test_book build/test_choosing build/test_journal
+LOG_PROGRAMS := build/second_slotbook build/logtext build/makelog
+PROGRAMS := build/example $(TESTS) $(addsuffix _sanitized,$(TESTS)) $(LOG_PROGRAMS) build/compare_packet build/compare_message
 BENCHES := build/bench_packet build/bench_message build/bench_choosing
 
 # the payload of the first packet of vectors/packets.txt
@@ -72,6 +80,10 @@ build/test_packet build/test_packet_sanitized: $(PACKET)
 build/test_message build/test_message_sanitized: $(MESSAGE)
 build/test_book build/test_book_sanitized: $(BOOK)
 build/test_choosing build/test_choosing_sanitized: $(CHOOSING)
+build/test_journal build/test_journal_sanitized: $(JOURNAL)
+build/second_slotbook: second/slotbook.c $(RUN_LOG)
+build/logtext: second/logtext.c $(LOG_TEXT)
+build/makelog: second/makelog.c $(LOGS) $(RUN_LOG)
 build/compare_packet: $(PACKET)
 build/compare_message: $(MESSAGE)
 build/bench_packet: bench/timing.c bench/plain_packet.c bench/table_packet.c second/packet.c
@@ -81,6 +93,9 @@ build/test_%_sanitized: second/test_%.c $(HEADERS)
 	cc $(WARN) $(SANITIZE) -o $@ $(filter %.c,$^)
 
 build/test_%: second/test_%.c $(HEADERS)
+	cc $(WARN) $(OPT) -o $@ $(filter %.c,$^)
+
+$(LOG_PROGRAMS): $(HEADERS)
 	cc $(WARN) $(OPT) -o $@ $(filter %.c,$^)
 
 build/compare_%: second/compare_%.c $(HEADERS) $(BOARD)

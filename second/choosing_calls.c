@@ -84,7 +84,7 @@ static bool lend_lists(struct choosing_run *run)
 
 static void hear(struct choosing_run *run, uint16_t station, struct announcement said)
 {
-    struct ship position = drawn_position(run);
+    struct ship position = drawn_position(&run->random);
     struct spoken spoken = {.source = model_source(station), .said = said};
     struct heard heard = heard_nothing, expected_heard = heard_nothing;
     spoken.base = drawn(run, 0, 9) == 0;
@@ -164,7 +164,7 @@ static void call_plan(struct choosing_run *run)
 
 static void call_own(struct choosing_run *run)
 {
-    struct ship ship = drawn_position(run);
+    struct ship ship = drawn_position(&run->random);
     uint32_t source = now_and_then(run) ? 0 : ship.source;
     lend_lists(run);
     uint32_t expected = model_own(&run->model, source, ship.latitude, ship.longitude);

@@ -5,6 +5,7 @@
 
 #include "choosing_case.h"
 #include "choosing_model.h"
+#include "drawn_position.h"
 #include "random.h"
 
 enum choosing_call { CALLED_HEAR, CALLED_PASS, CALLED_PLAN, CALLED_OWN, CALLED_CHOOSE, CALLED_REPORT, CHOOSING_CALLS };
@@ -69,7 +70,6 @@ void choosing_run_compare(struct choosing_run *run);
 /* Random numbers: once in forty times; a number with both limits included; and what the calls are made with. */
 bool now_and_then(struct choosing_run *run);
 uint32_t drawn(struct choosing_run *run, uint32_t first, uint32_t last);
-struct ship drawn_position(struct choosing_run *run);
 uint16_t drawn_station(struct choosing_run *run);
 uint32_t drawn_passes(struct choosing_run *run);
 uint32_t drawn_window(struct choosing_run *run);

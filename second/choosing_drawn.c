@@ -1,8 +1,7 @@
 /* choosing_drawn.c - the random numbers of sequences of calls with choosing and report among them. */
 #include "choosing_calls.h"
 
-/* A source that no station has. */
-enum { OWN_SOURCE = 123, NOW_AND_THEN = 40 };
+enum { NOW_AND_THEN = 40 };
 
 /* Here each number is drawn in a statement of its own, so that every compiler draws alike. */
 bool now_and_then(struct choosing_run *run)
@@ -13,21 +12,6 @@ bool now_and_then(struct choosing_run *run)
 uint32_t drawn(struct choosing_run *run, uint32_t first, uint32_t last)
 {
     return (uint32_t)random_from_to(&run->random, first, last);
-}
-
-/* Few places, so that many are as far as each other; some lie across the date line, some are not known. */
-struct ship drawn_position(struct choosing_run *run)
-{
-    static const int32_t longitudes[] = {-107999900, -200, 0, 200, 107999900};
-    struct ship ship = {OWN_SOURCE, 54600000, 108600000};
-    uint32_t kind = drawn(run, 0, 11);
-    uint32_t latitude = drawn(run, 0, 3), longitude = drawn(run, 0, 4);
-    if (kind == 0) {
-        return ship;
-    }
-    ship.latitude = kind == 1 ? 54000001 : 100 * (int32_t)latitude;
-    ship.longitude = longitudes[longitude];
-    return ship;
 }
 
 /* Often one that is held off, where there is one: it may then hold a whole window. */
