@@ -25,7 +25,8 @@ BOARD := target/staticlib/libboard.a
 TRIAL := target/staticlib/libtrial.a
 COMMON := $(addprefix second/,random.c stream.c lines.c trial.c report.c tally.c run.c)
 PACKET := $(addprefix second/,packet.c unstuffed.c damage.c refusals.c faults.c cases.c vectors.c) $(COMMON)
-MESSAGE := $(addprefix second/,message.c message_vectors.c message_fields.c message_lengths.c message_cases.c message_run.c) $(COMMON)
+MESSAGE := $(addprefix second/,message.c message_vectors.c message_fields.c message_lengths.c message_cases.c message_run.c occurrences.c) \
+	$(COMMON)
 BOOK := $(addprefix second/,book.c hearing.c message.c book_case.c calls_by_hand.c marks_by_hand.c records_by_hand.c refusals_by_hand.c \
 	order_by_hand.c strange_by_hand.c strange_at_random.c book_model.c book_agrees.c book_said.c book_calls.c book_sequences.c occurrences.c \
 	random.c report.c)

@@ -5,6 +5,7 @@
 #include "message_cases.h"
 #include "message_fields.h"
 #include "message_vectors.h"
+#include "occurrences.h"
 #include "run.h"
 
 #include <string.h>
@@ -95,20 +96,6 @@ static void note_outcome(void *notes, const struct trial *trial, const struct ca
     } else {
         outcomes->time_outs[state[1]]++;
     }
-}
-
-static void report_each(struct report *report, const char *name, const unsigned long *times, size_t first, size_t end)
-{
-    struct text line = {.len = 0};
-    bool good = true;
-    text_add(&line, "%s:", name);
-    for (size_t i = first; i < end; i++) {
-        text_add(&line, i == first ? " " : ", ");
-        text_add_count(&line, times[i]);
-        text_add(&line, " of %zu", i);
-        good = good && times[i] > 0;
-    }
-    report_line(report, good, &line);
 }
 
 static void report_outcomes(struct report *report, const struct both_outcomes *both)

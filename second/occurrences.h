@@ -1,4 +1,4 @@
-/* occurrences.h - lines about what has to occur at least once in sequences of calls. */
+/* occurrences.h - lines about what has to occur at least once. */
 #ifndef SECOND_OCCURRENCES_H
 #define SECOND_OCCURRENCES_H
 
