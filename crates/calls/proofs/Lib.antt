@@ -1,0 +1,17 @@
+pub mod Arr
+pub mod Back
+pub mod Column16
+pub mod Column32
+pub mod Core
+pub mod Data
+pub mod Datum
+pub mod Fill16
+pub mod Fill32
+pub mod Lent
+pub mod Named
+pub mod NamedOne
+pub mod Read
+pub mod Refusals
+pub mod Row
+pub mod Settles
+pub mod Thin

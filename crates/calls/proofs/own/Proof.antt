@@ -1,0 +1,28 @@
+-- `calls::own` meets its contract: an instance of `Named.antt`. Assumes nothing.
+use contract.Running.{givenOf, tables, tablesOf}
+use denote.Triple.Spec.{tripleOf}
+use denote.Triple.Table.{entered, cited}
+use Rattle.register.specs.Sheet.{Ends}
+use Rattle.register.specs.declared.What.the-variants.{Own}
+use Rattle.calls.specs.Calls.{asked, callOf}
+use Rattle.calls.proofs.Data.{AskD, AskL, WatchD, WatchL, ShipD, ShipL, ReplyD, ReplyL}
+use Rattle.calls.proofs.Named.{meets}
+use Rattle.calls.proofs.to_own as made
+use Rattle.calls.proofs.to_own.Symbol as made-def
+use Rattle.calls.proofs.to_own.Met as made-thm
+use Rattle.calls.proofs.call as inner
+use Rattle.calls.proofs.call.Symbol as inner-def
+use Rattle.calls.proofs.call.Met as inner-thm
+use Rattle.calls.proofs.own.Key.{name as #f}
+use Rattle.calls.proofs.own as f
+use Rattle.calls.proofs.own.Statement as stated
+use Rattle.calls.proofs.own.Code as code
+
+pub own-spec : {M : Type 1} → stated.statement M
+unfolding code.routine tablesOf
+own-spec 𝓤 H 𝓜 𝓖 𝓡 =
+    entered 𝓤 H (tripleOf 𝓤 H (𝓖 .A) f.signature (f.spec 𝓤 H (𝓖 .A) (𝓜 .mem) (𝓡 .run)))
+    (tables 𝓤 H 𝓜 𝓡 code.env .C) (tables 𝓤 H 𝓜 𝓡 code.env .Λ) #f code.function (code.unfolded 𝓤 H 𝓜 𝓡)
+    (meets WatchD WatchL ShipD ShipL AskD AskL ReplyD ReplyL (λ w q. asked w 0 (Own q)) (λ m xs bs r zs cs. Ends (callOf m xs bs) r zs cs) made-def.name inner-def.name 𝓤 H (𝓖 .A) (givenOf 𝓤 H 𝓜 𝓖) (tablesOf 𝓤 H 𝓜 (tables 𝓤 H 𝓜 𝓡 code.env))
+    (cited 𝓤 H (tripleOf 𝓤 H (𝓖 .A) made.signature (made.spec 𝓤 H (𝓖 .A) (𝓜 .mem) (𝓡 .run))) 𝓜 𝓡 code.env made-def.name made-def.routine code.calls-calls·to-own (made-thm.met 𝓤 H 𝓜 𝓖 𝓡))
+    (cited 𝓤 H (tripleOf 𝓤 H (𝓖 .A) inner.signature (inner.spec 𝓤 H (𝓖 .A) (𝓜 .mem) (𝓡 .run))) 𝓜 𝓡 code.env inner-def.name inner-def.routine code.calls-calls·call (inner-thm.met 𝓤 H 𝓜 𝓖 𝓡)))

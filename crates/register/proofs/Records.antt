@@ -1,0 +1,106 @@
+-- A record's columns and the record after a call, by the tests on the way.
+-- Assumes nothing.
+use mathlib.Core.Path.{_≡_, refl, sym, ap, _∙_}
+use mathlib.Core.Bool.{true, false}
+use mathlib.Core.Logic.{inl, inr}
+use mathlib.Core.List.{[], _∷_}
+use Prim.Native.Nat.{ℕ, _-_}
+use native.Mathlib.Omega.{arith}
+use borrow.Author.Tests.{eq-eqb, ne-eqb}
+use denote.Enum.Declared.{tagOf}
+use lib.IntN.{ℤ}
+use types.Run.{OneOf}
+use Rattle.distance.specs.Distance.{reachOf}
+use Rattle.choosing.specs.declared.Ask.{Ask as ChooseAsk}
+use Rattle.choosing.specs.Own.{held}
+use Rattle.register.specs.declared.Station.{Station}
+use Rattle.register.specs.declared.Watch.{Watch}
+use Rattle.register.specs.declared.What.{What}
+use Rattle.register.specs.declared.What.the-variants.{Nothing, Hear, Plan, Own, Choose, Report, New, Sum}
+use Rattle.register.specs.declared.Ask.{Ask}
+use Rattle.register.specs.declared.Order.{Order}
+use Rattle.register.specs.Register.{blank, reachIn, wordBy, wordOf, holdAfter, changed, settle}
+use Rattle.register.proofs.What.{the-type}
+
+-- ---- the second column
+
+-- the source, where no slot is to be chosen
+pub other-word :
+    (q : What) (w : Watch) (n : ℕ) (s : Station) → OneOf (0 ∷ 1 ∷ 2 ∷ 3 ∷ 5 ∷ 6 ∷ 7 ∷ []) (tagOf the-type q)
+    → s .source ≡ wordBy q w n s
+other-word Nothing w n s o = refl
+other-word (Hear t) w n s o = refl
+other-word (Plan r) w n s o = refl
+other-word (Own p) w n s o = refl
+other-word (Choose a) w n s (inl e) = absurd (omega arith)
+other-word (Choose a) w n s (inr (inl e)) = absurd (omega arith)
+other-word (Choose a) w n s (inr (inr (inl e))) = absurd (omega arith)
+other-word (Choose a) w n s (inr (inr (inr (inl e)))) = absurd (omega arith)
+other-word (Choose a) w n s (inr (inr (inr (inr (inl e))))) = absurd (omega arith)
+other-word (Choose a) w n s (inr (inr (inr (inr (inr (inl e)))))) = absurd (omega arith)
+other-word (Choose a) w n s (inr (inr (inr (inr (inr (inr e)))))) = absurd (omega arith)
+other-word (Report t) w n s o = refl
+other-word New w n s o = refl
+other-word Sum w n s o = refl
+
+-- the reach, where one is
+pub chosen-word : (x : Ask) (s : Station) (a : ChooseAsk) → x .what ≡ Choose a
+    → reachOf (x .watch .ship) (record { base = s .base; latitude = s .latitude; longitude = s .longitude; hold = s .hold - x .passes }) ≡ wordOf x s
+unfolding wordOf reachIn
+chosen-word x s a e = sym (ap (λ (q : What). wordBy q (x .watch) (x .passes) s) e)
+
+-- ---- the hold-off
+
+module _ (hold word : ℕ) (o : Order) where
+  -- a mark of the station was replaced
+  pub held-off : o .holds ≡ true → word ≡ held → 2250 ≡ holdAfter hold word o
+  unfolding holdAfter
+  held-off e f = rw (e, eq-eqb word held f)
+
+  -- none was
+  pub not-held : o .holds ≡ true → (word ≡ held → ⊥) → hold - o .passes ≡ holdAfter hold word o
+  unfolding holdAfter
+  not-held e n = rw (e, ne-eqb word held n)
+
+  pub none-held : o .holds ≡ false → hold - o .passes ≡ holdAfter hold word o
+  unfolding holdAfter
+  none-held e = rw e
+
+-- ---- the record
+
+module _ (o : Order) (i : ℕ) (s : Station) (tally word h : ℕ) (lat lon : ℤ) (is : h ≡ holdAfter (s .hold) word o) where
+  -- no station was entered in it
+  pub stays : (i ≡ o .at → ⊥) → lat ≡ s .latitude → lon ≡ s .longitude
+      → _≡_ {A = Station} (record { source = s .source; base = s .base; latitude = lat; longitude = lon; tally = tally; hold = h }) (changed o i s tally word)
+  unfolding changed
+  stays n e f =
+      (λ j. record { source = s .source; base = s .base; latitude = e j; longitude = f j; tally = tally; hold = is j })
+      ∙ rw (ne-eqb i (o .at) n)
+
+  module _ (here : i ≡ o .at) (e : lat ≡ o .latitude) (f : lon ≡ o .longitude) where
+    -- it was taken over
+    pub taken-over : o .taken ≡ true
+        → _≡_ {A = Station} (record { source = word; base = o .base; latitude = lat; longitude = lon; tally = tally; hold = 0 }) (changed o i s tally word)
+    unfolding changed
+    taken-over t =
+        (λ j. record { source = word; base = o .base; latitude = e j; longitude = f j; tally = tally; hold = 0 })
+        ∙ rw (eq-eqb i (o .at) here, t)
+
+    -- its station was heard again
+    pub heard-again : o .taken ≡ false
+        → _≡_ {A = Station} (record { source = word; base = o .base; latitude = lat; longitude = lon; tally = tally; hold = h }) (changed o i s tally word)
+    unfolding changed
+    heard-again t =
+        (λ j. record { source = word; base = o .base; latitude = e j; longitude = f j; tally = tally; hold = is j })
+        ∙ rw (eq-eqb i (o .at) here, t)
+
+module _ (o : Order) (i : ℕ) (s : Station) (tally word : ℕ) where
+  -- the register is to be new
+  pub made-new : o .fresh ≡ true → blank ≡ settle o i s tally word
+  unfolding settle
+  made-new e = rw e
+
+  -- it is kept
+  pub not-new : o .fresh ≡ false → changed o i s tally word ≡ settle o i s tally word
+  unfolding settle
+  not-new e = rw e
