@@ -1,3 +1,4 @@
+pub mod Ageing
 pub mod Arr
 pub mod Back
 pub mod Column16
@@ -12,6 +13,8 @@ pub mod Named
 pub mod NamedOne
 pub mod Read
 pub mod Refusals
+pub mod Passing
+pub mod Promised
 pub mod Row
 pub mod Settles
 pub mod Thin
