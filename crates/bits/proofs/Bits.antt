@@ -3,16 +3,16 @@
 use mathlib.Core.Path.{_≡_, refl, sym, ap, ap₂, _∙_}
 use mathlib.Core.Bool.{Bool, true, false}
 use mathlib.Core.List.{List, [], _∷_, _++_}
-use Prim.Native.Nat.{ℕ, zero, suc, _+_, _*_, _/_, _%_, _^_, _≤_, _<_}
+use Prim.Native.Nat.{ℕ, zero, suc, _+_, _-_, _*_, _/_, _%_, _^_, _≤_, _<_}
 use native.Mathlib.Nat.{zero-add, suc-add, add-comm, lt-of-lt-of-le, pow-suc, mul-assoc, mul-comm, div-div-eq-div-mul}
 use native.Mathlib.Numerals.{one-add}
 use native.Mathlib.Omega.{arith}
 use borrow.Author.Tests.{le-leb, leb-true}
 use lib.Arith.{digits-lt}
 use lib.Dec.{leb}
-use lib.ListN.{length, getD, take, drop, length-take}
+use lib.ListN.{length, getD, take, drop, length-take, length-drop, take-append-drop}
 use lib.Pow.{pow-mono, shr-shr, mod-pow-add, high}
-use lib.Seq.{take-all}
+use lib.Seq.{take-all, drop-drop, take-add}
 use Rattle.laws.specs.Tests.{both}
 use Rattle.laws.proofs.Tests.{both-left, both-right, both-no}
 use Rattle.laws.proofs.Lists.{next}
@@ -53,7 +53,31 @@ pub allBits-append : (xs ys : List ℕ) → allBits xs ≡ true → allBits ys �
 allBits-append [] ys e f = f
 allBits-append (x ∷ xs) ys e f = allBits-more x (xs ++ ys) (bit-head x xs e) ∙ allBits-append xs ys (bit-tail x xs e) f
 
--- what `are_bits` keeps: the greatest so far, and what is left
+-- a list by blocks, of which the last may overlap
+allBits-split : (xs ys : List ℕ) → allBits (xs ++ ys) ≡ both (allBits xs) (allBits ys)
+unfolding allBits
+allBits-split [] ys = refl
+allBits-split (x ∷ xs) ys = ap (both (leb x 1)) (allBits-split xs ys) ∙ regroup (leb x 1) (allBits xs) (allBits ys)
+  where
+    regroup : (a b c : Bool) → both a (both b c) ≡ both (both a b) c
+    regroup true b c = refl
+    regroup false b c = refl
+
+allBits-parts : (n : ℕ) (l : List ℕ) → allBits l ≡ both (allBits (take n l)) (allBits (drop n l))
+allBits-parts n l = ap allBits (sym (take-append-drop n l)) ∙ allBits-split (take n l) (drop n l)
+
+pub blocks-no : (n : ℕ) (l : List ℕ) → allBits (take n l) ≡ false → false ≡ allBits l
+blocks-no n l e = sym (allBits-parts n l ∙ ap (λ (t : Bool). both t (allBits (drop n l))) e)
+
+pub blocks-yes : (n k : ℕ) (l : List ℕ) → k ≤ n → n ≤ length l → allBits (take n l) ≡ true → allBits (take (length l - k) (drop k l)) ≡ allBits l
+blocks-yes n k l h room e =
+    let m : k + (n - k) ≡ n = omega arith in
+    let back : drop (n - k) (drop k l) ≡ drop n l = drop-drop (n - k) k l ∙ ap (λ (j : ℕ). drop j l) m in
+    let whole : take k l ++ take (n - k) (drop k l) ≡ take n l = sym (take-add k (n - k) l) ∙ ap (λ (j : ℕ). take j l) m in
+    let front : allBits (take (n - k) (drop k l)) ≡ true = both-right (allBits (take k l)) (allBits (take (n - k) (drop k l))) (sym (allBits-split (take k l) (take (n - k) (drop k l))) ∙ ap allBits whole ∙ e) in
+    ap allBits (take-all (length l - k) (drop k l) (omega (arith, length-drop k l))) ∙ allBits-parts (n - k) (drop k l) ∙ rw (front, back) (sym (allBits-parts n l ∙ ap (λ (t : Bool). both t (allBits (drop n l))) e))
+
+-- what `all_small` keeps: the greatest so far, and what is left
 abbrev pub upTo : ℕ → List ℕ → Bool
 upTo most bs = both (leb most 1) (allBits bs)
 

@@ -2,14 +2,15 @@
 -- Assumes nothing.
 use mathlib.Core.Path.{_≡_, sym, ap, ap₂, _∙_}
 use mathlib.Core.Bool.{Bool, true}
-use mathlib.Core.List.{List, [], _∷_}
+use mathlib.Core.List.{List, [], _∷_, _++_}
 use Prim.Native.Nat.{ℕ, suc, _+_, _*_, _/_, _%_, _^_, _≤_, _<_}
+use native.Mathlib.Nat.{pow-suc, mul-assoc}
 use native.Mathlib.Omega.{arith}
 use lib.Bits.{bitAnd}
 use borrow.Author.Tests.{eqb-true}
 use lib.Dec.{T, eqb, ltb, ltb→lt}
 use lib.ListN.{length, getD, take, drop, set, length-drop}
-use lib.Seq.{sets, getD-take, getD-drop, length-take-le}
+use lib.Seq.{sets, getD-take, getD-drop, length-take-le, take-add, drop-drop}
 use Rattle.laws.specs.Tests.{both}
 use Rattle.laws.specs.Lists.{same}
 use Rattle.laws.proofs.Tests.{is-true, of-true, both-left, both-right}
@@ -20,27 +21,19 @@ use Rattle.bits.proofs.Bits.{bit-at, allBits-take, allBits-drop, bits-b
 
 -- as the code computes it
 pub spreading : ℕ → ℕ
-spreading t = bitAnd (t * 0x0040201008040201 / 128) 0x0001010101010101 + t % 2 * 2 ^ 56 % 2 ^ 64
+spreading t = bitAnd ((t * 0x0040201008040201 + t * 2 ^ 63 % 2 ^ 64) / 128) 0x0101010101010101
 
 spreads-well : ℕ → Bool
 unfolding spreading same highFirst eightOf
-spreads-well t = both (ltb (spreading t) (2 ^ 64)) (same (eightOf (spreading t)) (highFirst 8 t))
+spreads-well t = same (eightOf (spreading t)) (highFirst 8 t)
 
 all-spread-well : T (allBelow spreads-well 256)
 unfolding spreads-well
 all-spread-well = tt
 
-well : (t : ℕ) → t < 256 → both (ltb (spreading t) (2 ^ 64)) (same (eightOf (spreading t)) (highFirst 8 t)) ≡ true
-unfolding spreads-well
-well t h = is-true {b = spreads-well t} (below spreads-well 256 all-spread-well t h)
-
-pub spread-fits : (t : ℕ) → t < 256 → bitAnd (t * 0x0040201008040201 / 128) 0x0001010101010101 + t % 2 * 2 ^ 56 % 2 ^ 64 < 2 ^ 64
-unfolding spreading
-spread-fits t h = ltb→lt (spreading t) (2 ^ 64) (of-true (both-left (ltb (spreading t) (2 ^ 64)) (same (eightOf (spreading t)) (highFirst 8 t)) (well t h)))
-
-pub spread-bits : (t : ℕ) → t < 256 → eightOf (bitAnd (t * 0x0040201008040201 / 128) 0x0001010101010101 + t % 2 * 2 ^ 56 % 2 ^ 64) ≡ highFirst 8 t
-unfolding spreading
-spread-bits t h = same→eq _ _ (both-right (ltb (spreading t) (2 ^ 64)) (same (eightOf (spreading t)) (highFirst 8 t)) (well t h))
+pub spread-bits : (t : ℕ) → t < 256 → eightOf (bitAnd ((t * 0x0040201008040201 + t * 2 ^ 63 % 2 ^ 64) / 128) 0x0101010101010101) ≡ highFirst 8 t
+unfolding spreading spreads-well
+spread-bits t h = same→eq _ _ (is-true {b = spreads-well t} (below spreads-well 256 all-spread-well t h))
 
 -- eight stores, each at the next place
 pub places : (at : ℕ) → (at + 1 ≡ suc at) × (at + 2 ≡ suc (suc at)) × (at + 3 ≡ suc (suc (suc at))) × (at + 4 ≡ suc (suc (suc (suc at))))
@@ -100,3 +93,24 @@ module _ (l : List ℕ) (at : ℕ) (bits : allBits l ≡ true) (fits : at + 8 �
   unfolding fourOf
   four-small j h =
       omega (arith, bit-at l (at + j) bits (omega arith), bit-at l (at + j + 1) bits (omega arith), bit-at l (at + j + 2) bits (omega arith), bit-at l (at + j + 3) bits (omega arith))
+
+-- ---- 32 bits as a word
+
+value-append : (xs ys : List ℕ) → lowValue (xs ++ ys) ≡ lowValue xs + lowValue ys * 2 ^ length xs
+unfolding lowValue
+value-append [] ys = omega arith
+value-append (x ∷ xs) ys = omega (arith, value-append xs ys, pow-suc 2 (length xs), mul-assoc (lowValue ys) (2 ^ length xs) 2, ap (lowValue ys *_) (pow-suc 2 (length xs)))
+
+value-more : (l : List ℕ) (at n : ℕ) → at + 8 ≤ length l → lowValue (take (8 + n) (drop at l)) ≡ lowValue (take 8 (drop at l)) + lowValue (take n (drop (at + 8) l)) * 256
+value-more l at n h =
+    let first = take 8 (drop at l) in
+    let e : take (8 + n) (drop at l) ≡ first ++ take n (drop (at + 8) l) = take-add 8 n (drop at l) ∙ ap (λ (t : List ℕ). first ++ take n t) (drop-drop 8 at l) in
+    let k : length first ≡ 8 = length-take-le 8 (drop at l) (omega (arith, length-drop at l)) in
+    ap lowValue e ∙ value-append first (take n (drop (at + 8) l)) ∙ ap (λ (j : ℕ). lowValue first + lowValue (take n (drop (at + 8) l)) * 2 ^ j) k
+
+pub word-is : (l : List ℕ) (at : ℕ) → at + 32 ≤ length l → {a b c d : ℕ} → a ≡ lowValue (take 8 (drop at l)) → b ≡ lowValue (take 8 (drop (at + 8) l)) → c ≡ lowValue (take 8 (drop (at + 16) l))
+    → d ≡ lowValue (take 8 (drop (at + 24) l)) → (a + b * 256) + (c * 65536 + d * 16777216) ≡ lowValue (take 32 (drop at l))
+word-is l at h ea eb ec ed =
+    let p : at + 8 + 8 ≡ at + 16 = omega arith in
+    let q : at + 16 + 8 ≡ at + 24 = omega arith in
+    omega (arith, value-more l at 24 (omega arith), rw p at (value-more l (at + 8) 16 (omega arith)), rw q at (value-more l (at + 16) 8 (omega arith)), ea, eb, ec, ed)

@@ -12,13 +12,13 @@ ghost use lib.ListN.{length, take, drop};
 ghost use lib.Seq.{sets};
 ghost use Rattle.bits.specs.Bits.{highFirst, lowValue, allBits, fourOf, eightOf};
 
-// The bits of a byte as the eight bytes of a number, the highest bit in the lowest byte. The factor brings bit 7 - j to place 8 j + 7, and
-// no two of its products meet.
+// The bits of a byte as the eight bytes of a number, the highest bit in the lowest byte. The factor, to which the shift adds the place 63,
+// brings bit 7 - j to place 8 j + 7, and no two of its products meet. A compiler makes one product of the two.
 pub fn spread(t: u8) -> u64
     ensures { λ r. ⌜ eightOf r ≡ highFirst 8 t ⌝ }
 {
-    let all = (t as u64) * 0x0040201008040201;
-    ((all / 128) & 0x0001010101010101) + (((t % 2) as u64) << 56)
+    let all = (t as u64) * 0x0040201008040201 + ((t as u64) << 63);
+    (all / 128) & 0x0101010101010101
 }
 
 // The eight bytes of a number from place at on, the lowest first. A compiler makes one store of them.
@@ -37,7 +37,7 @@ pub fn store_eight(out: &mut [u8], at: usize, z: u64)
 }
 
 // Is every byte 0 or 1? Without a way out of the loop, so that it goes by many bytes at a time.
-pub fn are_bits(bits: &[u8]) -> bool
+fn all_small(bits: &[u8]) -> bool
     ensures { λ r. ⌜ r ≡ allBits (now (bits .entry)) ⌝ }
 {
     let mut most: u8 = 0;
@@ -52,15 +52,31 @@ pub fn are_bits(bits: &[u8]) -> bool
     most <= 1
 }
 
-// Four bits as the bytes of a number, the first one the lowest. A compiler makes one load of them.
-fn four_at(bits: &[u8], at: usize) -> u32
-    requires { ⌜ (allBits (now bits) ≡ true) × (at + 4 ≤ length (now bits)) ⌝ }
-    ensures { λ r. ⌜ r ≡ fourOf (now (bits .entry)) at ⌝ }
+// The same by blocks of 32 bytes, the last of which may overlap, so that no bytes are over and go one by one.
+pub fn are_bits(bits: &[u8]) -> bool
+    ensures { λ r. ⌜ r ≡ allBits (now (bits .entry)) ⌝ }
 {
-    let a = bits[at] as u32;
-    let b = bits[at + 1] as u32;
-    let c = bits[at + 2] as u32;
-    let d = bits[at + 3] as u32;
+    let n = bits.len();
+    if n < 32 {
+        return all_small(bits);
+    }
+    let whole = n / 32 * 32;
+    let last = n - 32;
+    if all_small(&bits[..whole]) {
+        return all_small(&bits[last..]);
+    }
+    false
+}
+
+// Four bytes as those of a number, the first one the lowest. A compiler makes one load of them.
+pub fn four_at(bytes: &[u8], at: usize) -> u32
+    requires { ⌜ at + 4 ≤ length (now bytes) ⌝ }
+    ensures { λ r. ⌜ r ≡ fourOf (now (bytes .entry)) at ⌝ }
+{
+    let a = bytes[at] as u32;
+    let b = bytes[at + 1] as u32;
+    let c = bytes[at + 2] as u32;
+    let d = bytes[at + 3] as u32;
     a + b * 256 + c * 65536 + d * 16777216
 }
 
@@ -72,4 +88,16 @@ pub fn byte_at(bits: &[u8], at: usize) -> u8
 {
     let both = four_at(bits, at) + four_at(bits, at + 4) * 16;
     ((both as u64) * 0x01020408 / 16777216 % 256) as u8
+}
+
+// The number that 32 bits make, the lowest first.
+pub fn word_at(bits: &[u8], at: usize) -> u64
+    requires { ⌜ (allBits (now bits) ≡ true) × (at + 32 ≤ length (now bits)) ⌝ }
+    ensures { λ r. ⌜ r ≡ lowValue (take 32 (drop at (now (bits .entry)))) ⌝ }
+{
+    let a = byte_at(bits, at) as u64;
+    let b = byte_at(bits, at + 8) as u64;
+    let c = byte_at(bits, at + 16) as u64;
+    let d = byte_at(bits, at + 24) as u64;
+    (a + b * 256) + (c * 65536 + d * 16777216)
 }

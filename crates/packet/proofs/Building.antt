@@ -1,24 +1,24 @@
--- What `send_payload`, `close` and `build` come to: the packet.
+-- What `put_frame`, `send_all` and `build` come to: the packet.
 -- Assumes nothing.
 use mathlib.Core.Path.{_≡_, refl, sym, ap, ap₂, _∙_}
 use mathlib.Core.List.{List, [], _∷_, _++_, append-assoc, append-nil}
-use Prim.Native.Nat.{ℕ, _+_, _-_, _*_, _/_, _%_, _≤_, _<_}
-use native.Mathlib.Numerals.{add-one}
+use Prim.Native.Nat.{ℕ, zero, suc, _+_, _-_, _*_, _/_, _%_, _≤_, _<_}
 use native.Mathlib.Omega.{arith}
-use lib.Count.{trailingZeros}
-use lib.ListN.{length, getD, List·getD-append, take, drop, length-append, length-drop, take-append-drop}
-use lib.Seq.{sets, length-sets, take-suc, take-all, getD-append-add}
+use borrow.Rule.Slice.PartMut.{putMid}
+use lib.ListN.{length, getD, take, drop, set, length-append, length-take, length-drop, length-set, take-append-drop}
+use lib.Seq.{sets, length-sets, take-length, take-add, take-at, drop-at, drop-drop, length-take-le}
 use Rattle.laws.specs.Lists.{over}
-use Rattle.laws.proofs.Lists.{sets-append, stored-over}
-use Rattle.bits.specs.Bits.{lowFirst, highFirst, turned, sentBits, eightOf}
-use Rattle.bits.proofs.Bits.{length-highFirst, high-split}
-use Rattle.bits.proofs.Bytes.{sentBits-more, sentBits-end, sent-append, length-sent, sent-byte, turned-back}
-use Rattle.packet.specs.Check.{through, checkOf}
-use Rattle.packet.specs.Stuff.{flag, stuffed}
-use Rattle.packet.specs.Sending.{leftOf, Valid, toCome, Leads}
-use Rattle.packet.specs.Packet.{frameOf, frameBytes, packetOf}
+use Rattle.laws.proofs.Lists.{next, done, take-middle, take-stored, sets-append, stored-over}
+use Rattle.bits.specs.Bits.{lowFirst, highFirst, sentBits, eightOf}
+use Rattle.bits.proofs.Bits.{length-highFirst, low-append}
+use Rattle.bits.proofs.Bytes.{sentBits-more, sentBits-end, sent-append, length-sent}
+use Rattle.packet.specs.Check.{zeros, through, checkOf, mirrored}
+use Rattle.packet.specs.Stuff.{flag, stuffed, leftAfter}
+use Rattle.packet.specs.Sending.{leftOf, toCome, Leads}
+use Rattle.packet.specs.Packet.{frameOf, packetOf}
 use Rattle.packet.specs.declared.stuff.Sending.{Sending}
-use Rattle.packet.proofs.Register.{through-append, through-end}
+use Rattle.packet.proofs.Register.{mirrored-bits, mirrored-not}
+use Rattle.packet.proofs.Checking.{sent-zeros}
 use Rattle.packet.proofs.Stuffing.{stuffed-bound, stuffed-end}
 use Rattle.packet.proofs.Sending.{toCome-long, leads-on, leads-nowhere}
 
@@ -43,111 +43,140 @@ length-packet p = simp length-append (omega (arith, length-flag))
 pub packet-short : (p : List ℕ) → length p ≤ 21 → length (packetOf p) ≤ 236
 packet-short p h = omega (arith, length-packet p, stuffed-bound 4 (frameOf p) (omega arith), length-frame p)
 
--- ---- the frame, byte by byte
+length-zeros : (n : ℕ) → length (zeros n) ≡ n
+unfolding zeros
+length-zeros zero = refl
+length-zeros (suc n) = ap suc (length-zeros n)
 
-pub frame-bits : (p : List ℕ) → sentBits (frameBytes p) ≡ frameOf p
-unfolding frameBytes frameOf
-frame-bits p =
-    let c = checkOf (sentBits p) in
-    let t₁ = turned (c / 256) in
-    let t₂ = turned (c % 256) in
-    let two : sentBits (t₁ ∷ t₂ ∷ []) ≡ highFirst 16 c =
-    sentBits-more t₁ (t₂ ∷ []) ∙ ap₂ _++_ (turned-back (c / 256) (omega arith)) (sentBits-more t₂ [] ∙ ap (lowFirst 8 t₂ ++_) sentBits-end ∙ append-nil (lowFirst 8 t₂) ∙ turned-back (c % 256) (omega arith))
-    ∙ sym (high-split c) in
-    sent-append p (t₁ ∷ t₂ ∷ []) ∙ ap (sentBits p ++_) two
+-- ---- the frame behind four zeros
 
-pub length-frameBytes : (p : List ℕ) → length (frameBytes p) ≡ length p + 2
-unfolding frameBytes
-length-frameBytes p = length-append p _
+pub raw-long : {raw : List ℕ} → raw ≡ zeros 28 → length raw ≡ 28
+raw-long empty = ap length empty ∙ length-zeros 28
 
-module _ (p : List ℕ) (i : ℕ) {reg : ℕ} (er : reg ≡ through 0xffff (sentBits (take i p))) where
-  pub in-payload : {b t reg′ : ℕ} → i < length p → b ≡ getD p i 0 → b < 256 → t ≡ turned b → reg′ ≡ through reg (highFirst 8 t)
-      → (b ≡ getD (frameBytes p) i 0) × (reg′ ≡ through 0xffff (sentBits (take (i + 1) p)))
-  unfolding frameBytes
-  in-payload {b} {t} {reg′} more eb byte et e =
-      let s : sentBits (take (i + 1) p) ≡ sentBits (take i p) ++ lowFirst 8 b =
-      ap sentBits (ap (λ (n : ℕ). take n p) (add-one i) ∙ take-suc p i 0 more ∙ ap (λ (x : ℕ). take i p ++ (x ∷ [])) (sym eb)) ∙ sent-append (take i p) (b ∷ [])
-      ∙ ap (sentBits (take i p) ++_) (sentBits-more b [] ∙ ap (lowFirst 8 b ++_) sentBits-end ∙ append-nil (lowFirst 8 b)) in (
-        eb ∙ sym (List·getD-append p _ 0 i more),
-        e ∙ ap (λ (x : ℕ). through reg (highFirst 8 x)) et ∙ ap (through reg) (sent-byte b byte) ∙ ap (λ (r : ℕ). through r (lowFirst 8 b)) er
-            ∙ sym (ap (through 0xffff) s ∙ through-append (sentBits (take i p)) (lowFirst 8 b) 0xffff),
-      )
+module _ (p : List ℕ) {raw ys : List ℕ} (short : length p ≤ 21) (empty : raw ≡ zeros 28) (copied : ys ≡ take (length p) p ++ drop (length p) (take (length raw - 4) (drop 4 raw))) where
+  rest : List ℕ
+  rest = drop (length p) (take (length raw - 4) (drop 4 raw)) ++ drop (length raw - 4) (drop 4 raw)
 
-  module _ (past : length p ≤ i) where
-    pub reg-stays : reg ≡ through 0xffff (sentBits (take (i + 1) p))
-    reg-stays = er ∙ ap (λ (l : List ℕ). through 0xffff (sentBits l)) (take-all i p past ∙ sym (take-all (i + 1) p (omega arith)))
+  rest-long : length rest + length p ≡ 24
+  unfolding rest
+  rest-long = simp (length-append, length-drop, length-take) (omega (arith, raw-long empty))
 
-    reg-is : reg ≡ through 0xffff (sentBits p)
-    reg-is = er ∙ ap (λ (l : List ℕ). through 0xffff (sentBits l)) (take-all i p past)
+  front : take 4 raw ≡ zeros 4
+  unfolding zeros
+  front = ap (take 4) empty
 
-    pub upper-byte : {t : ℕ} → i ≡ length p → t ≡ turned ((0xffff - reg) / 256) → t ≡ getD (frameBytes p) i 0
-    unfolding frameBytes
-    upper-byte {t} e et =
-        let n : i ≡ length p + 0 = omega arith in
-        et ∙ ap (λ (r : ℕ). turned ((0xffff - r) / 256)) reg-is ∙ sym (ap (λ (k : ℕ). getD (frameBytes p) k 0) n ∙ getD-append-add p _ 0 0)
+  parts : putMid 4 (length raw - 4) raw ys ≡ zeros 4 ++ p ++ rest
+  unfolding rest
+  parts =
+      let d = drop (length p) (take (length raw - 4) (drop 4 raw)) in
+      let e = drop (length raw - 4) (drop 4 raw) in
+      ap₂ (λ (a b : List ℕ). a ++ (b ++ e)) front (copied ∙ ap (_++ d) (take-length p)) ∙ ap (zeros 4 ++_) (append-assoc p d e) ∙ sym (append-assoc (zeros 4) p (d ++ e))
 
-    pub lower-byte : {t : ℕ} → (i ≡ length p → ⊥) → i < length p + 2 → t ≡ turned ((0xffff - reg) % 256) → t ≡ getD (frameBytes p) i 0
-    unfolding frameBytes
-    lower-byte {t} ne less et =
-        let n : i ≡ length p + 1 = omega arith in
-        et ∙ ap (λ (r : ℕ). turned ((0xffff - r) % 256)) reg-is ∙ sym (ap (λ (k : ℕ). getD (frameBytes p) k 0) n ∙ getD-append-add p _ 1 0)
+  pub held-long : length (putMid 4 (length raw - 4) raw ys) ≡ 28
+  held-long = ap length parts ∙ simp length-append (omega (arith, rest-long, length-zeros 4))
 
-pub record Underway (p out₀ : List ℕ) (s₀ : Sending) (out : List ℕ) (s : Sending) (reg i : ℕ) : Type 0 where
-  pub leads : Leads (sentBits (take i (frameBytes p))) s₀ out₀ s out
-  pub check : reg ≡ through 0xffff (sentBits (take i p))
-  pub within : i ≤ length p + 2
+  pub held-start : take 4 (putMid 4 (length raw - 4) raw ys) ≡ zeros 4
+  held-start = ap (take 4) (parts ∙ append-assoc (zeros 4) p rest) ∙ take-at (zeros 4) (p ++ rest) 4 (length-zeros 4)
+
+  payload-held : take (length p) (drop 4 (putMid 4 (length raw - 4) raw ys)) ≡ p
+  payload-held = ap (λ (l : List ℕ). take (length p) (drop 4 l)) parts ∙ take-middle (zeros 4) p rest 4 (length p) (length-zeros 4) refl
+
+  module _ {reg : ℕ} (small : reg < 65536) (e : mirrored reg ≡ through 0xffff (sentBits (take (length p) (drop 4 (putMid 4 (length raw - 4) raw ys))))) where
+    check-sent : sentBits ((0xffff - reg) % 256 ∷ (0xffff - reg) / 256 ∷ []) ≡ highFirst 16 (checkOf (sentBits p))
+    check-sent =
+        let c = 0xffff - reg in
+        let lo = c % 256 in
+        let hi = c / 256 in
+        let last : sentBits (hi ∷ []) ≡ lowFirst 8 hi = sentBits-more hi [] ∙ ap (lowFirst 8 hi ++_) sentBits-end ∙ append-nil (lowFirst 8 hi) in
+        let sum : lo + hi * 256 ≡ c = omega arith in
+        sentBits-more lo (hi ∷ []) ∙ ap (lowFirst 8 lo ++_) last ∙ low-append 8 8 lo hi (omega arith) ∙ ap (lowFirst 16) sum
+        ∙ sym (mirrored-bits c) ∙ ap (highFirst 16) (mirrored-not reg small ∙ ap (0xffff -_) (e ∙ ap (λ (l : List ℕ). through 0xffff (sentBits l)) payload-held))
+
+    pub framed : sentBits (take (length p + 6) (set (set (putMid 4 (length raw - 4) raw ys) (4 + length p) ((0xffff - reg) % 256)) (5 + length p) ((0xffff - reg) / 256))) ≡ zeros 32 ++ frameOf p
+    unfolding frameOf
+    framed =
+        let n = length p in
+        let held = putMid 4 (length raw - 4) raw ys in
+        let lo = (0xffff - reg) % 256 in
+        let hi = (0xffff - reg) / 256 in
+        let n₆ : n + 6 ≡ suc (5 + n) = omega arith in
+        let n₅ : 5 + n ≡ suc (4 + n) = omega arith in
+        let body : take (4 + n) held ≡ zeros 4 ++ p = ap (take (4 + n)) parts ∙ take-at (zeros 4 ++ p) rest (4 + n) (length-append (zeros 4) p ∙ omega (arith, length-zeros 4)) in
+        let one : take (5 + n) (set held (4 + n) lo) ≡ zeros 4 ++ p ++ (lo ∷ []) = ap (λ (k : ℕ). take k (set held (4 + n) lo)) n₅ ∙ take-stored held (4 + n) lo (omega (arith, held-long)) ∙ ap (_++ (lo ∷ [])) body in
+        let both : take (n + 6) (set (set held (4 + n) lo) (5 + n) hi) ≡ zeros 4 ++ p ++ (lo ∷ hi ∷ []) =
+        ap (λ (k : ℕ). take k (set (set held (4 + n) lo) (5 + n) hi)) n₆ ∙ take-stored (set held (4 + n) lo) (5 + n) hi (rw length-set (omega (arith, held-long)))
+        ∙ ap (_++ (hi ∷ [])) one ∙ append-assoc (zeros 4 ++ p) (lo ∷ []) (hi ∷ []) in
+        ap sentBits both ∙ sent-append (zeros 4 ++ p) (lo ∷ hi ∷ []) ∙ ap₂ _++_ (sent-append (zeros 4) p ∙ ap (_++ sentBits p) (sent-zeros 4)) check-sent
+        ∙ append-assoc (zeros 32) (sentBits p) (highFirst 16 (checkOf (sentBits p)))
+
+pub behind-four : (p raw : List ℕ) → length raw ≡ 28 → sentBits (take (length p + 6) raw) ≡ zeros 32 ++ frameOf p → sentBits (take (length p + 6 - 4) (drop 4 raw)) ≡ frameOf p
+behind-four p raw long e =
+    let m = length p + 6 - 4 in
+    let n : length p + 6 ≡ 4 + (length p + 6 - 4) = omega arith in
+    let first = sentBits (take 4 raw) in
+    let part = take m (drop 4 raw) in
+    let split : first ++ sentBits part ≡ zeros 32 ++ frameOf p = sym (ap (λ (k : ℕ). sentBits (take k raw)) n ∙ ap sentBits (take-add 4 m raw) ∙ sent-append (take 4 raw) part) ∙ e in
+    let l : length first ≡ 32 = length-sent (take 4 raw) ∙ omega (arith, length-take-le 4 raw (omega arith)) in
+    sym (drop-at first (sentBits part) 32 l) ∙ ap (drop 32) split ∙ drop-at (zeros 32) (frameOf p) 32 (length-zeros 32)
+
+-- ---- bytes on their way
+
+-- what is left, sent, leads from the start to the end
+pub record Underway (bytes : List ℕ) (s₀ : Sending) (out₀ : List ℕ) (i₀ : ℕ) (s : Sending) (out : List ℕ) (i : ℕ) : Type 0 where
+  pub four : s .tail < 16
+  pub room : s .at + length (toCome (s .tail) (sentBits (drop i bytes))) ≤ length out
   pub long : length out ≡ length out₀
+  pub goes : (s′ : Sending) (out′ : List ℕ) → Leads (sentBits (drop i bytes)) s out s′ out′ → Leads (sentBits (drop i₀ bytes)) s₀ out₀ s′ out′
 
-pub underway-start : (p out : List ℕ) (s : Sending) → Valid (s .mask) → Underway p out s out s 0xffff 0
-underway-start p out s v =
-    record { leads = rw sentBits-end (leads-nowhere v); check = sym (ap (through 0xffff) sentBits-end ∙ through-end 0xffff); within = omega arith; long = refl }
+pub underway-start : {bytes out : List ℕ} {s : Sending} {i : ℕ} → s .tail < 16 → s .at + length (toCome (s .tail) (sentBits (drop i bytes))) ≤ length out → Underway bytes s out i s out i
+underway-start h room = record { four = h; room = room; long = refl; goes = λ _ _ l. l }
 
-module _ {p out₀ : List ℕ} {s₀ : Sending} {out : List ℕ} {s : Sending} {reg i : ℕ} (u : Underway p out₀ s₀ out s reg i) (more : i < length p + 2) where
-  pub underway-room : s₀ .at + length (toCome (s₀ .mask) (frameOf p)) ≤ length out₀ → s .at + 10 ≤ length out
-  underway-room fits =
-      let f = frameBytes p in
-      let rest = drop i f in
-      let e : sentBits (take i f) ++ sentBits rest ≡ frameOf p = sym (sent-append (take i f) rest) ∙ ap sentBits (take-append-drop i f) ∙ frame-bits p in
-      let z = u .leads .size (sentBits rest) ∙ ap (λ (t : List ℕ). s₀ .at + length (toCome (s₀ .mask) t)) e in
-      omega (arith, z, toCome-long (s .mask) (sentBits rest), length-sent rest, length-drop i f, length-frameBytes p, u .long)
+module _ {bytes out₀ out : List ℕ} {s₀ s : Sending} {i₀ i : ℕ} (u : Underway bytes s₀ out₀ i₀ s out i) where
+  pub underway-room : (n : ℕ) → i + n ≤ length bytes → s .at + (8 * n + 8) ≤ length out
+  underway-room n more = omega (arith, u .room, toCome-long (s .tail) (sentBits (drop i bytes)), length-sent (drop i bytes), length-drop i bytes)
 
-  pub underway-turn : {out′ : List ℕ} {s′ : Sending} {b reg′ : ℕ} → b ≡ getD (frameBytes p) i 0 → reg′ ≡ through 0xffff (sentBits (take (i + 1) p))
-      → Leads (lowFirst 8 b) s out s′ out′ → length out′ ≡ length out → Underway p out₀ s₀ out′ s′ reg′ (i + 1)
-  underway-turn {b = b} eb er l long =
-      let f = frameBytes p in
-      let one : sentBits (b ∷ []) ≡ lowFirst 8 b = sentBits-more b [] ∙ ap (lowFirst 8 b ++_) sentBits-end ∙ append-nil (lowFirst 8 b) in
-      let e : sentBits (take (i + 1) f) ≡ sentBits (take i f) ++ lowFirst 8 b =
-      ap sentBits (ap (λ (n : ℕ). take n f) (add-one i) ∙ take-suc f i 0 (omega (arith, length-frameBytes p)) ∙ ap (λ (x : ℕ). take i f ++ (x ∷ [])) (sym eb))
-      ∙ sent-append (take i f) (b ∷ []) ∙ ap (sentBits (take i f) ++_) one in
-      record { leads = rw e (leads-on (u .leads) l); check = er; within = omega arith; long = long ∙ u .long }
+  pub underway-on : (n : ℕ) {bits out′ : List ℕ} {s′ : Sending} → sentBits (take n (drop i bytes)) ≡ bits → Leads bits s out s′ out′ → length out′ ≡ length out → Underway bytes s₀ out₀ i₀ s′ out′ (i + n)
+  underway-on n {bits} {out′} {s′} e l long =
+      let rest = sentBits (drop (i + n) bytes) in
+      let split : sentBits (drop i bytes) ≡ bits ++ rest =
+      ap sentBits (sym (take-append-drop n (drop i bytes))) ∙ sent-append (take n (drop i bytes)) (drop n (drop i bytes)) ∙ ap₂ _++_ e (ap sentBits (drop-drop n i bytes)) in
+      record {
+        four = l .four;
+        room = omega (arith, u .room, l .size rest, ap (λ (t : List ℕ). s .at + length (toCome (s .tail) t)) split);
+        long = long ∙ u .long;
+        goes = λ s″ out″ k. u .goes s″ out″ (rw split (leads-on l k));
+      }
 
-pub underway-end : {p out₀ : List ℕ} {s₀ : Sending} {out : List ℕ} {s : Sending} {reg i : ℕ} → Underway p out₀ s₀ out s reg i → length p + 2 ≤ i → Leads (frameOf p) s₀ out₀ s out
-underway-end {p} {i = i} u past =
-    let f = frameBytes p in
-    rw (ap sentBits (take-all i f (omega (arith, length-frameBytes p))) ∙ frame-bits p) at (u .leads)
+  pub underway-end : length bytes ≤ i → Leads (sentBits (drop i₀ bytes)) s₀ out₀ s out
+  underway-end past = u .goes s out (rw (done bytes i past, sentBits-end) (leads-nowhere (u .four)))
+
+pub one-taken : (l : List ℕ) (i : ℕ) → i < length l → sentBits (take 1 (drop i l)) ≡ lowFirst 8 (getD l i 0)
+one-taken l i h =
+    let b = getD l i 0 in
+    ap (λ (t : List ℕ). sentBits (take 1 t)) (next l i h) ∙ sentBits-more b [] ∙ ap (lowFirst 8 b ++_) sentBits-end ∙ append-nil (lowFirst 8 b)
 
 -- ---- the whole packet
 
-toCome-none : (mask : ℕ) → toCome mask [] ≡ flag
+toCome-none : (tail : ℕ) → toCome tail [] ≡ flag
 unfolding toCome
-toCome-none mask = ap (_++ flag) (stuffed-end (leftOf mask))
+toCome-none tail = ap (_++ flag) (stuffed-end (leftOf tail))
 
-module _ (p out : List ℕ) (short : length p ≤ 21) (room : 236 ≤ length out) {out₁ : List ℕ} (o₁ : out₁ ≡ sets out 0 flag) (s₀ : Sending) (at₀ : s₀ .at ≡ 8) (mask₀ : s₀ .mask ≡ 240) where
-  start-is : toCome (s₀ .mask) (frameOf p) ≡ stuffed 4 (frameOf p) ++ flag
-  unfolding toCome leftOf trailingZeros
-  start-is = rw mask₀ refl
+module _ (p out : List ℕ) (short : length p ≤ 21) (room : 236 ≤ length out) {out₁ bits : List ℕ} (o₁ : out₁ ≡ sets out 0 flag) (is : bits ≡ frameOf p) where
+  start-is : toCome 0 bits ≡ stuffed 4 (frameOf p) ++ flag
+  unfolding toCome leftOf leftAfter lowFirst
+  start-is = ap (λ (t : List ℕ). stuffed 4 t ++ flag) is
 
-  whole-is : s₀ .at + length (toCome (s₀ .mask) (frameOf p)) ≡ length (packetOf p)
-  whole-is = omega (arith, at₀, ap length start-is, length-append (stuffed 4 (frameOf p)) flag, length-flag, length-packet p)
+  whole-is : 8 + length (toCome 0 bits) ≡ length (packetOf p)
+  whole-is = omega (arith, ap length start-is, length-append (stuffed 4 (frameOf p)) flag, length-flag, length-packet p)
 
-  pub frame-room : s₀ .at + length (toCome (s₀ .mask) (frameOf p)) ≤ length out₁
+  pub frame-room : 8 + length (toCome 0 bits) ≤ length out₁
   frame-room = rw (o₁, length-sets) (omega (arith, whole-is, packet-short p short))
 
-  module _ {s : Sending} {out₂ : List ℕ} (l : Leads (frameOf p) s₀ out₁ s out₂) (long₂ : length out₂ ≡ length out₁) where
+  module _ {s : Sending} {out₂ : List ℕ} (l : Leads bits (record { at = 8; tail = 0 }) out₁ s out₂) (long₂ : length out₂ ≡ length out₁) where
     pub built-long : s .at + 8 ≡ length (packetOf p)
     built-long =
-        let z = l .size [] ∙ ap (λ (t : List ℕ). s₀ .at + length (toCome (s₀ .mask) t)) (append-nil (frameOf p)) in
-        omega (arith, z, ap length (toCome-none (s .mask)), length-flag, whole-is)
+        let z = l .size [] ∙ ap (λ (t : List ℕ). 8 + length (toCome 0 t)) (append-nil bits) in
+        omega (arith, z, ap length (toCome-none (s .tail)), length-flag, whole-is)
 
     pub flag-room : s .at + 8 ≤ length out₂
     flag-room = omega (arith, built-long, whole-is, frame-room)
@@ -158,7 +187,7 @@ module _ (p out : List ℕ) (short : length p ≤ 21) (room : 236 ≤ length out
         let f = stuffed 4 (frameOf p) ++ flag in
         let e8 : 0 + length flag ≡ 8 = omega (arith, length-flag) in
         let head = rw e8 at (sets-append flag f out 0) in
-        e ∙ ap (sets out₂ (s .at)) (sym (toCome-none (s .mask))) ∙ l .stored []
-        ∙ ap (λ (t : List ℕ). sets out₁ (s₀ .at) (toCome (s₀ .mask) t)) (append-nil (frameOf p))
-        ∙ ap (sets out₁ (s₀ .at)) start-is ∙ rw (at₀, o₁) (sym head) ∙ ap (sets out 0) (sym (append-assoc flag (stuffed 4 (frameOf p)) flag))
+        e ∙ ap (sets out₂ (s .at)) (sym (toCome-none (s .tail))) ∙ l .stored []
+        ∙ ap (λ (t : List ℕ). sets out₁ 8 (toCome 0 t)) (append-nil bits)
+        ∙ ap (sets out₁ 8) start-is ∙ rw o₁ (sym head) ∙ ap (sets out 0) (sym (append-assoc flag (stuffed 4 (frameOf p)) flag))
         ∙ stored-over (packetOf p) out (omega (arith, packet-short p short))

@@ -1,8 +1,11 @@
 pub mod Register
+pub mod Checking
 pub mod Stuffing
+pub mod Marking
+pub mod Keeping
+pub mod Filling
 pub mod Sending
 pub mod Building
-pub mod Unstuffing
 pub mod Takings
 pub mod Taken
 pub mod Answers

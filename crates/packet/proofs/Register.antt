@@ -1,21 +1,23 @@
--- The register takes a whole byte at once: what a byte of the payload makes of it is one entry of a table, by its upper byte, and
--- its lower byte moved up. This rests on the register's step being linear in exclusive or.
+-- The register takes four bytes at once: what they make of it is the exclusive or of eight entries of a table. This rests on the
+-- register's step being linear in exclusive or.
 -- Assumes nothing.
-use mathlib.Core.Path.{_≡_, refl, sym, ap, ap₂, _∙_}
+use mathlib.Core.Path.{_≡_, refl, sym, ap, ap₂, subst, _∙_}
 use mathlib.Core.Bool.{Bool, true}
 use mathlib.Core.List.{List, [], _∷_, _++_}
-use Prim.Native.Nat.{ℕ, zero, suc, _*_, _/_, _%_, _^_, _≤_, _<_}
+use Prim.Native.Nat.{ℕ, zero, suc, _+_, _-_, _*_, _/_, _%_, _^_, _≤_, _<_}
+use native.Mathlib.Nat.{zero-add, suc-add}
 use native.Mathlib.Omega.{arith}
 use lib.Dec.{T, eqb}
-use lib.Bits.{bitXor, xor-zero-r, xor-shr}
-use lib.ListN.{length}
+use lib.Bits.{bitXor, bitAnd, xor-zero-r, xor-comm, xor-shr, xor-mod, xor-block, xor-shifted, xor-add-and, and-mask}
+use lib.ListN.{length, getD, take}
+use lib.Seq.{take-all}
 use borrow.Author.Tests.{eq-eqb, ne-eqb, eqb-true}
 use Rattle.laws.proofs.Tests.{is-true}
 use Rattle.laws.proofs.Table.{allBelow, below}
-use Rattle.laws.proofs.Xor.{xor, xor-16, xor-8, comm, zero-r, self, assoc, swap, double, parts, block}
-use Rattle.bits.specs.Bits.{allBits, highFirst}
-use Rattle.bits.proofs.Bits.{bit-head, bit-tail, high-bits, length-highFirst}
-use Rattle.packet.specs.Check.{stepped, through, entryOf}
+use Rattle.laws.proofs.Xor.{xor, xor-16, zero-r, self, assoc, swap, double, parts}
+use Rattle.bits.specs.Bits.{allBits, lowFirst, highFirst, highValue}
+use Rattle.bits.proofs.Bits.{bit-head, bit-tail, low-bits, high-bits, length-lowFirst, length-highFirst, high-split, high-back, high-bound, low-append}
+use Rattle.packet.specs.Check.{stepped, through, zeros, mirrored, checkTable}
 
 top : (a c : ℕ) → xor a c / 32768 ≡ xor (a / 32768) (c / 32768)
 unfolding xor
@@ -93,7 +95,7 @@ stepped-xor a c b ha hc hb =
     ∙ sym (ap (xor (zeroed a)) (stepped-is c b hc hb))
 
 -- n steps at 0
-zeroes : ℕ → ℕ → ℕ
+pub zeroes : ℕ → ℕ → ℕ
 zeroes zero r = r
 zeroes (suc n) r = zeroes n (zeroed r)
 
@@ -124,15 +126,27 @@ unfolding through
 through-append [] ys r = refl
 through-append (x ∷ xs) ys r = through-append xs ys (stepped r x)
 
--- ---- the table, and two tests at each of its places
+-- zeros that go in
+
+pub through-zeros : (n r : ℕ) → through r (zeros n) ≡ zeroes n r
+unfolding through zeros zeroes zeroed
+through-zeros zero r = refl
+through-zeros (suc n) r = through-zeros n (stepped r 0)
+
+zeroes-add : (n m r : ℕ) → zeroes n (zeroes m r) ≡ zeroes (m + n) r
+unfolding zeroes
+zeroes-add n zero r = rw (zero-add n)
+zeroes-add n (suc m) r = zeroes-add n m (zeroed r) ∙ ap (λ (k : ℕ). zeroes k r) (sym (suc-add m n))
+
+-- ---- 16 bits come in: at each byte a test that it enters at the top, and one that what is below moves up
 
 low-moves : ℕ → Bool
 unfolding zeroes zeroed
 low-moves l = eqb (zeroes 8 l) (l * 256)
 
 high-enters : ℕ → Bool
-unfolding zeroes zeroed entryOf
-high-enters h = eqb (zeroes 8 (h * 256)) (entryOf h)
+unfolding zeroes zeroed through highFirst stepped
+high-enters h = eqb (zeroes 8 (h * 256)) (through 0 (highFirst 8 h))
 
 all-low-move : T (allBelow low-moves 256)
 unfolding low-moves
@@ -146,40 +160,152 @@ low-moved : (l : ℕ) → l < 256 → zeroes 8 l ≡ l * 256
 unfolding low-moves
 low-moved l h = eqb-true _ _ (is-true (below low-moves 256 all-low-move l h))
 
-high-entered : (x : ℕ) → x < 256 → zeroes 8 (x * 256) ≡ entryOf x
+high-entered : (x : ℕ) → x < 256 → zeroes 8 (x * 256) ≡ through 0 (highFirst 8 x)
 unfolding high-enters
 high-entered x h = eqb-true _ _ (is-true (below high-enters 256 all-high-enter x h))
 
-pub entry-16 : (x : ℕ) → x < 256 → entryOf x < 65536
-entry-16 x h = rw (← high-entered x h) (zeroes-16 8 (x * 256) (omega arith))
+through-bits : (r n x : ℕ) → r < 65536 → through r (highFirst n x) ≡ xor (zeroes n r) (through 0 (highFirst n x))
+through-bits r n x h =
+    ap (λ (y : ℕ). through y (highFirst n x)) (sym (zero-r r)) ∙ through-xor (highFirst n x) r 0 (high-bits n x) h (omega arith)
+    ∙ ap (λ (k : ℕ). xor (zeroes k r) (through 0 (highFirst n x))) (length-highFirst n x)
 
--- ---- a byte at once
+two-bytes : (x : ℕ) → x < 65536 → through 0 (highFirst 16 x) ≡ zeroes 16 x
+two-bytes x hx =
+    let h = x / 256 in
+    let l = x % 256 in
+    let hh : x / 256 < 256 = omega arith in
+    let hl : x % 256 < 256 = omega arith in
+    ap (through 0) (high-split x) ∙ through-append (highFirst 8 h) (highFirst 8 l) 0
+    ∙ ap (λ (r : ℕ). through r (highFirst 8 l)) (sym (high-entered h hh)) ∙ through-bits (zeroes 8 (h * 256)) 8 l (zeroes-16 8 (h * 256) (omega arith))
+    ∙ ap₂ xor (zeroes-add 8 8 (h * 256)) (sym (high-entered l hl) ∙ ap (zeroes 8) (sym (low-moved l hl)) ∙ zeroes-add 8 8 l)
+    ∙ sym (zeroes-xor 16 (h * 256) l (omega arith) (omega arith)) ∙ ap (zeroes 16) (sym (parts x))
 
-entry-xor : (h t : ℕ) → h < 256 → t < 256 → xor (entryOf h) (entryOf t) ≡ entryOf (xor h t)
-entry-xor h t hh ht =
-    sym (ap₂ xor (high-entered h hh) (high-entered t ht))
-    ∙ sym (zeroes-xor 8 (h * 256) (t * 256) (omega arith) (omega arith))
-    ∙ ap (zeroes 8) (block h t) ∙ high-entered (xor h t) (xor-8 h t hh ht)
+-- ---- mirrored
 
-byte-in : (r t : ℕ) → r < 65536 → t < 256 → through r (highFirst 8 t) ≡ xor (r % 256 * 256) (entryOf (xor (r / 256) t))
-unfolding entryOf
-byte-in r t hr ht =
-    let h = r / 256 in
-    let l = r % 256 in
-    let hh : r / 256 < 256 = omega arith in
-    let hl : r % 256 < 256 = omega arith in
-    let moved : zeroes 8 r ≡ xor (entryOf h) (l * 256) =
-    ap (zeroes 8) (parts r) ∙ zeroes-xor 8 (h * 256) l (omega arith) (omega arith) ∙ ap₂ xor (high-entered h hh) (low-moved l hl) in
-    ap (λ (x : ℕ). through x (highFirst 8 t)) (sym (zero-r r))
-    ∙ through-xor (highFirst 8 t) r 0 (high-bits 8 t) hr (omega arith)
-    ∙ ap (λ (n : ℕ). xor (zeroes n r) (entryOf t)) (length-highFirst 8 t)
-    ∙ ap (λ (x : ℕ). xor x (entryOf t)) (moved ∙ comm (entryOf h) (l * 256))
-    ∙ assoc (l * 256) (entryOf h) (entryOf t) (omega arith) (entry-16 h hh) (entry-16 t ht)
-    ∙ ap (xor (l * 256)) (entry-xor h t hh ht)
+pub mirrored-16 : (r : ℕ) → mirrored r < 65536
+unfolding mirrored
+mirrored-16 r =
+    let h : highValue 0 (take 16 (lowFirst 16 r)) < 2 ^ 16 = high-bound 16 (lowFirst 16 r) (low-bits 16 r) in
+    subst (λ (l : List ℕ). highValue 0 l < 65536) (take-all 16 (lowFirst 16 r) (omega (arith, length-lowFirst 16 r))) h
 
--- as the code computes it
-pub byte-step : (r t : ℕ) → r < 65536 → t < 256 → bitXor (r * 2 ^ 8 % 2 ^ 16) (entryOf (bitXor (r / 2 ^ 8) t)) ≡ through r (highFirst 8 t)
+pub mirrored-bits : (r : ℕ) → highFirst 16 (mirrored r) ≡ lowFirst 16 r
+unfolding mirrored
+mirrored-bits r = rw (length-lowFirst 16 r) at (high-back (lowFirst 16 r) 0 (low-bits 16 r))
+
+mirror-xor : (n a b x y : ℕ) → highValue (xor x y) (lowFirst n (xor a b)) ≡ xor (highValue x (lowFirst n a)) (highValue y (lowFirst n b))
+unfolding highValue lowFirst xor
+mirror-xor zero a b x y = refl
+mirror-xor (suc n) a b x y =
+    let e : bitXor x y * 2 + bitXor a b % 2 ≡ bitXor (x * 2 + a % 2) (y * 2 + b % 2) = ap (bitXor x y * 2 +_) (xor-mod a b 1) ∙ sym (xor-block 1 x y (a % 2) (b % 2) (omega arith) (omega arith)) in
+    ap₂ (λ (z w : ℕ). highValue z (lowFirst n w)) e (xor-shr a b 1) ∙ mirror-xor n (a / 2) (b / 2) (x * 2 + a % 2) (y * 2 + b % 2)
+
+pub mirrored-xor : (a b : ℕ) → mirrored (xor a b) ≡ xor (mirrored a) (mirrored b)
+unfolding mirrored
+mirrored-xor a b = ap (λ (z : ℕ). highValue z (lowFirst 16 (xor a b))) (sym (zero-r 0)) ∙ mirror-xor 16 a b 0 0
+
+sixteen-in : (R y : ℕ) → R < 65536 → through R (lowFirst 16 y) ≡ xor (zeroes 16 R) (zeroes 16 (mirrored y))
+sixteen-in R y h =
+    ap (through R) (sym (mirrored-bits y)) ∙ through-bits R 16 (mirrored y) h ∙ ap (xor (zeroes 16 R)) (two-bytes (mirrored y) (mirrored-16 y))
+
+not-is : (x : ℕ) → x < 65536 → 0xffff - x ≡ xor x 0xffff
 unfolding xor
-byte-step r t hr ht =
-    let m : r * 256 % 65536 ≡ r % 256 * 256 = omega arith in
-    ap (λ (x : ℕ). bitXor x (entryOf (bitXor (r / 256) t))) m ∙ sym (byte-in r t hr ht)
+not-is x h = let a : bitAnd x 65535 ≡ x % 65536 = and-mask x 16 in omega (arith, xor-add-and x 65535)
+
+all-mirrored : mirrored 0xffff ≡ 0xffff
+unfolding mirrored highValue lowFirst
+all-mirrored = refl
+
+pub mirrored-not : (r : ℕ) → r < 65536 → mirrored (0xffff - r) ≡ 0xffff - mirrored r
+mirrored-not r h = ap mirrored (not-is r h) ∙ mirrored-xor r 0xffff ∙ ap (xor (mirrored r)) all-mirrored ∙ sym (not-is (mirrored r) (mirrored-16 r))
+
+-- ---- the table, and a test at each of its places
+
+entry-right : ℕ → Bool
+unfolding checkTable mirrored highValue lowFirst zeroes zeroed
+entry-right j = eqb (mirrored (getD checkTable j 0)) (zeroes (16 + 16 * (j / 64)) (mirrored (j % 16 * 2 ^ (4 * (j / 16 % 4)))))
+
+all-entries-right : T (allBelow entry-right 128)
+unfolding entry-right
+all-entries-right = tt
+
+module _ {table : List ℕ} (is : table ≡ checkTable) (from y : ℕ) (start : from % 64 ≡ 0) (few : from ≤ 64) (small : y < 65536) where
+  entry-is : (j n i : ℕ) → j ≡ from + 16 * i + n → n < 16 → i < 4 → mirrored (getD table j 0) ≡ zeroes (16 + from / 4) (mirrored (n * 2 ^ (4 * i)))
+  unfolding entry-right
+  entry-is j n i ej hn hi =
+      let q : from ≡ 64 * (from / 64) = omega arith in
+      let a : 16 + 16 * (j / 64) ≡ 16 + from / 4 = omega arith in
+      let b : j % 16 ≡ n = omega arith in
+      let d : j / 16 ≡ 4 * (from / 64) + i = omega arith in
+      let c : j / 16 % 4 ≡ i = rw d (omega arith) in
+      let e : mirrored (getD checkTable j 0) ≡ zeroes (16 + 16 * (j / 64)) (mirrored (j % 16 * 2 ^ (4 * (j / 16 % 4)))) =
+      eqb-true _ _ (is-true {b = entry-right j} (below entry-right 128 all-entries-right j (omega arith))) in
+      ap (λ (t : List ℕ). mirrored (getD t j 0)) is ∙ rw (a, b, c) at e
+
+  y-is : xor (xor (y % 16 * 2 ^ 0) (y / 16 % 16 * 2 ^ 4)) (xor (y / 256 % 16 * 2 ^ 8) (y / 4096 * 2 ^ 12)) ≡ y
+  unfolding xor
+  y-is =
+      let n₀ = y % 16 in
+      let n₁ = y / 16 % 16 in
+      let n₂ = y / 256 % 16 in
+      let n₃ = y / 4096 in
+      let lower : bitXor (n₀ * 2 ^ 0) (n₁ * 2 ^ 4) ≡ n₁ * 16 + n₀ = xor-comm (n₀ * 2 ^ 0) (n₁ * 2 ^ 4) ∙ xor-shifted n₁ 4 (n₀ * 2 ^ 0) (omega arith) ∙ omega arith in
+      let upper : bitXor (n₂ * 2 ^ 8) (n₃ * 2 ^ 12) ≡ (n₃ * 16 + n₂) * 256 = xor-comm (n₂ * 2 ^ 8) (n₃ * 2 ^ 12) ∙ xor-shifted n₃ 12 (n₂ * 2 ^ 8) (omega arith) ∙ omega arith in
+      ap₂ bitXor lower upper ∙ xor-comm (n₁ * 16 + n₀) ((n₃ * 16 + n₂) * 256) ∙ xor-shifted (n₃ * 16 + n₂) 8 (n₁ * 16 + n₀) (omega arith) ∙ omega arith
+
+  both-in : (n a b A B : ℕ) → mirrored a ≡ zeroes n A → mirrored b ≡ zeroes n B → A < 65536 → B < 65536 → mirrored (xor a b) ≡ zeroes n (xor A B)
+  both-in n a b A B ea eb hA hB = mirrored-xor a b ∙ ap₂ xor ea eb ∙ sym (zeroes-xor n A B hA hB)
+
+  pub moves-on : {a b c d r : ℕ} → a ≡ getD table (from + y % 16) 0 → b ≡ getD table (from + 16 + y / 16 % 16) 0 → c ≡ getD table (from + 32 + y / 256 % 16) 0 → d ≡ getD table (from + 48 + y / 4096) 0
+      → r ≡ xor (xor a b) (xor c d) → mirrored r ≡ through (mirrored y) (zeros (16 + from / 4))
+  moves-on {a} {b} {c} {d} ea eb ec ed er =
+      let N = 16 + from / 4 in
+      let m = mirrored in
+      let A = m (y % 16 * 2 ^ 0) in
+      let B = m (y / 16 % 16 * 2 ^ 4) in
+      let C = m (y / 256 % 16 * 2 ^ 8) in
+      let D = m (y / 4096 * 2 ^ 12) in
+      let ma : m a ≡ zeroes N A = ap m ea ∙ entry-is (from + y % 16) (y % 16) 0 (omega arith) (omega arith) (omega arith) in
+      let mb : m b ≡ zeroes N B = ap m eb ∙ entry-is (from + 16 + y / 16 % 16) (y / 16 % 16) 1 (omega arith) (omega arith) (omega arith) in
+      let mc : m c ≡ zeroes N C = ap m ec ∙ entry-is (from + 32 + y / 256 % 16) (y / 256 % 16) 2 (omega arith) (omega arith) (omega arith) in
+      let md : m d ≡ zeroes N D = ap m ed ∙ entry-is (from + 48 + y / 4096) (y / 4096) 3 (omega arith) (omega arith) (omega arith) in
+      let hA = mirrored-16 (y % 16 * 2 ^ 0) in
+      let hB = mirrored-16 (y / 16 % 16 * 2 ^ 4) in
+      let hC = mirrored-16 (y / 256 % 16 * 2 ^ 8) in
+      let hD = mirrored-16 (y / 4096 * 2 ^ 12) in
+      let all : xor (xor A B) (xor C D) ≡ m y = sym (mirrored-xor _ _ ∙ ap₂ xor (mirrored-xor _ _) (mirrored-xor _ _)) ∙ ap m y-is in
+      ap m er ∙ both-in N (xor a b) (xor c d) (xor A B) (xor C D) (both-in N a b A B ma mb hA hB) (both-in N c d C D mc md hC hD) (xor-16 A B hA hB) (xor-16 C D hC hD)
+      ∙ ap (zeroes N) all ∙ sym (through-zeros N (m y))
+
+-- four bytes, as two by two
+pub four-in : (reg z r₁ r₂ : ℕ) {x : ℕ} → x ≡ xor reg (z % 65536) → mirrored r₁ ≡ through (mirrored x) (zeros 32) → mirrored r₂ ≡ through (mirrored (z / 65536)) (zeros 16)
+    → mirrored (xor r₁ r₂) ≡ through (mirrored reg) (lowFirst 32 z)
+four-in reg z r₁ r₂ {x} ex e₁ e₂ =
+    let lo = z % 65536 in
+    let hi = z / 65536 in
+    let R = mirrored reg in
+    let sum : z % 65536 + z / 65536 * 2 ^ 16 ≡ z = omega arith in
+    let split : lowFirst 32 z ≡ lowFirst 16 lo ++ lowFirst 16 hi = sym (low-append 16 16 lo hi (omega arith) ∙ ap (lowFirst 32) sum) in
+    let M = mirrored x in
+    let first : through R (lowFirst 16 lo) ≡ zeroes 16 M =
+    sixteen-in R lo (mirrored-16 reg) ∙ sym (zeroes-xor 16 R (mirrored lo) (mirrored-16 reg) (mirrored-16 lo)) ∙ ap (zeroes 16) (sym (mirrored-xor reg lo) ∙ ap mirrored (sym ex)) in
+    mirrored-xor r₁ r₂ ∙ ap₂ xor (e₁ ∙ through-zeros 32 M) (e₂ ∙ through-zeros 16 (mirrored hi))
+    ∙ sym (ap (through R) split ∙ through-append (lowFirst 16 lo) (lowFirst 16 hi) R ∙ ap (λ (q : ℕ). through q (lowFirst 16 hi)) first
+    ∙ sixteen-in (zeroes 16 M) hi (zeroes-16 16 M (mirrored-16 x)) ∙ ap (λ (q : ℕ). xor q (zeroes 16 (mirrored hi))) (zeroes-add 16 16 M))
+
+-- ---- what comes before: as many zeros as there are, and then all ones
+
+pub none-before : through (mirrored 65535) (zeros 0) ≡ 0xffff
+unfolding through mirrored zeros stepped
+none-before = refl
+
+pub one-before : through (mirrored 12408) (zeros 8) ≡ 0xffff
+unfolding through mirrored zeros stepped
+one-before = refl
+
+pub two-before : through (mirrored 62241) (zeros 16) ≡ 0xffff
+unfolding through mirrored zeros stepped
+two-before = refl
+
+pub three-before : through (mirrored 36532) (zeros 24) ≡ 0xffff
+unfolding through mirrored zeros stepped
+three-before = refl

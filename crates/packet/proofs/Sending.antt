@@ -1,196 +1,114 @@
--- Sending one byte: that the code's arithmetic stuffs it, by a test at each byte and each number of ones that may come.
+-- Sending some bits: what is stored of them, and what is still to come.
 -- Assumes nothing.
 use mathlib.Core.Path.{_≡_, refl, sym, ap, ap₂, _∙_}
-use mathlib.Core.Bool.{Bool, true}
-use mathlib.Core.List.{List, [], _++_, append-assoc}
-use Prim.Native.Nat.{ℕ, zero, suc, _+_, _-_, _*_, _/_, _%_, _^_, _≤_, _<_}
+use mathlib.Core.List.{List, [], _∷_, _++_, append-assoc}
+use Prim.Native.Nat.{ℕ, zero, suc, _+_, _*_, _/_, _%_, _^_, _≤_, _<_}
+use native.Mathlib.Nat.{zero-add, suc-add, pow-suc, mul-comm, div-div-eq-div-mul}
 use native.Mathlib.Omega.{arith}
-use borrow.Author.Tests.{eqb-true, eq-eqb, ne-eqb}
-use lib.Bits.{bitAnd, xor-lt, and-le-r}
-use lib.Count.{trailingZeros}
-use lib.Dec.{T, eqb}
 use lib.ListN.{length, take, length-append}
+use lib.Pow.{shr-shr, shr-lt}
 use lib.Seq.{sets}
-use Rattle.laws.specs.Tests.{both, pick}
-use Rattle.laws.specs.Lists.{same}
-use Rattle.laws.proofs.Tests.{is-true, both-left, both-right}
-use Rattle.laws.proofs.Lists.{same→eq, stored-and-more}
-use Rattle.laws.proofs.Table.{allBelow, below}
+use Rattle.laws.proofs.Lists.{sets-append, stored-and-more}
 use Rattle.bits.specs.Bits.{lowFirst}
-use Rattle.bits.proofs.Bits.{length-lowFirst}
-use Rattle.packet.specs.Stuff.{flag, stuffed, leftAfter, fifths, maskOf, rowOf}
-use Rattle.packet.specs.Sending.{aboveOf, leftOf, Valid, afterOnes, Twice, Stuffs, toCome, Leads}
+use Rattle.bits.proofs.Bits.{low-bits, low-byte, length-lowFirst}
+use Rattle.packet.specs.Stuff.{flag, stuffed, leftAfter}
+use Rattle.packet.specs.Sending.{leftOf, Stuffs, toCome, Leads}
+use Rattle.packet.specs.declared.marks.Marked.{Marked}
 use Rattle.packet.specs.declared.stuff.Sending.{Sending}
-use Rattle.packet.proofs.Stuffing.{stuffed-append, stuffed-least, leftAfter-bound}
+use Rattle.packet.proofs.Stuffing.{stuffed-append, stuffed-least, stuffed-bound}
+use Rattle.packet.proofs.Filling.{few-left, lastFour, last-low, last-left}
 
-pub pow-some : (k : ℕ) → 0 < 2 ^ k
-pow-some zero = omega arith
-pow-some (suc k) = omega (arith, pow-some k)
+-- ---- the bits of a number in parts
 
-pub mask-byte : {mask : ℕ} → Valid mask → mask < 256
-mask-byte {mask} v = omega (arith, v .is, pow-some (leftOf mask))
+half-shift : (x h : ℕ) → x / 2 / 2 ^ h ≡ x / 2 ^ suc h
+half-shift x h = div-div-eq-div-mul x 2 (2 ^ h) ∙ ap (x /_) (mul-comm 2 (2 ^ h) ∙ sym (pow-suc 2 h))
 
-pub above-byte : (m : ℕ) → m < 256 → aboveOf m < 256
-unfolding aboveOf
-above-byte m h = xor-lt 8 m ((256 - m) % 256) h (omega arith)
+pub low-cut : (h m x : ℕ) → lowFirst (h + m) x ≡ lowFirst h x ++ lowFirst m (x / 2 ^ h)
+unfolding lowFirst
+low-cut zero m x = let e : x / 2 ^ 0 ≡ x = omega arith in rw (zero-add m, e) refl
+low-cut (suc h) m x = rw (suc-add h m) (ap (λ (t : List ℕ). x % 2 ∷ t) (low-cut h m (x / 2) ∙ ap (λ (y : ℕ). lowFirst h (x / 2) ++ lowFirst m y) (half-shift x h)))
 
-pub twice-byte : {b m after mask : ℕ} → Twice b m after mask → m < 256
-twice-byte {b} {m} {after} {mask} t = omega (arith, and-le-r (rowOf b) mask, t .fifths, mask-byte (t .valid))
+low-take : (j m x : ℕ) → j ≤ m → take j (lowFirst m x) ≡ lowFirst j x
+unfolding lowFirst
+low-take zero m x h = refl
+low-take (suc j) zero x h = absurd (omega arith)
+low-take (suc j) (suc m) x h = ap (λ (t : List ℕ). x % 2 ∷ t) (low-take j m (x / 2) (omega arith))
 
--- ---- the arithmetic of one byte
+-- the low bits stored, and then the next ones
+pub stored-on : (h m x at : ℕ) (out : List ℕ) → sets (sets out at (lowFirst h x)) (at + h) (lowFirst m (x / 2 ^ h)) ≡ sets out at (lowFirst (h + m) x)
+stored-on h m x at out =
+    let n : at + length (lowFirst h x) ≡ at + h = omega (arith, length-lowFirst h x) in
+    sym (ap (sets out at) (low-cut h m x) ∙ sets-append (lowFirst h x) (lowFirst m (x / 2 ^ h)) out at ∙ ap (λ (k : ℕ). sets (sets out at (lowFirst h x)) k (lowFirst m (x / 2 ^ h))) n)
 
-module _ (k b : ℕ) where
-  fifth : ℕ
-  fifth = bitAnd (rowOf b) (maskOf k)
+-- a byte and the next one; two bytes, two more and the last one
+pub two-stored : (x at : ℕ) (out : List ℕ) {out₁ out₂ : List ℕ} → out₁ ≡ sets out at (lowFirst 8 (x % 256)) → out₂ ≡ sets out₁ (at + 8) (lowFirst 8 (x / 256 % 256)) → out₂ ≡ sets out at (lowFirst 16 x)
+two-stored x at out e₁ e₂ =
+    e₂ ∙ ap₂ (λ (o ys : List ℕ). sets o (at + 8) ys) (e₁ ∙ ap (sets out at) (sym (low-byte x))) (sym (low-byte (x / 256))) ∙ stored-on 8 8 x at out
 
-  twice : ℕ
-  unfolding fifth aboveOf
-  twice = bitAnd fifth (aboveOf fifth * 16)
+pub five-stored : (x at : ℕ) (out : List ℕ) {out₁ out₂ out₃ : List ℕ} → out₁ ≡ sets out at (lowFirst 16 x) → out₂ ≡ sets out₁ (at + 16) (lowFirst 16 (x / 65536))
+    → out₃ ≡ sets out₂ (at + 32) (lowFirst 8 (x / 4294967296 % 256)) → out₃ ≡ sets out at (lowFirst 40 x)
+five-stored x at out e₁ e₂ e₃ =
+    let four = e₂ ∙ ap (λ (o : List ℕ). sets o (at + 16) (lowFirst 16 (x / 65536))) e₁ ∙ stored-on 16 16 x at out in
+    e₃ ∙ ap₂ (λ (o ys : List ℕ). sets o (at + 32) ys) four (sym (low-byte (x / 4294967296))) ∙ stored-on 32 8 x at out
 
-  once-bits : ℕ
-  unfolding fifth aboveOf
-  once-bits = b + bitAnd b (aboveOf fifth)
+-- ---- from place to place
 
-  twice-bits : ℕ
-  unfolding fifth twice aboveOf
-  twice-bits = b + bitAnd b (aboveOf fifth) + 2 * bitAnd b (aboveOf twice)
-
-  -- the first 8 + more bits of a number are the byte stuffed, and this is the mask after it
-  right : ℕ → ℕ → ℕ → Bool
-  unfolding same stuffed lowFirst leftAfter
-  right bits more mask =
-      both (same (take (8 + more) (lowFirst 10 bits)) (stuffed k (lowFirst 8 b)))
-      (both (eqb (length (stuffed k (lowFirst 8 b))) (8 + more)) (eqb mask (maskOf (leftAfter k (lowFirst 8 b)))))
-
-  once-right : Bool
-  unfolding fifth twice once-bits right rowOf
-  once-right = pick (eqb twice 0) (pick (eqb b 255) true (right once-bits ((fifth + 255) / 256) (rowOf b / 256))) true
-
-  twice-right : Bool
-  unfolding twice twice-bits right rowOf afterOnes
-  twice-right =
-      pick (pick (eqb twice 0) (eqb b 255) true)
-      (right twice-bits (1 + (twice + 255) / 256) (pick (eqb b 255) (afterOnes (maskOf k)) (rowOf b / 256)))
-      true
-
-all-right : ℕ → Bool
-unfolding once-right twice-right
-all-right b = allBelow (λ (k : ℕ). both (once-right k b) (twice-right k b)) 5
-
-right-everywhere : T (allBelow all-right 256)
-unfolding all-right
-right-everywhere = tt
-
--- ---- what the tests say
-
-module _ (k b : ℕ) (few : k ≤ 4) (byte : b < 256) where
-  tested : both (once-right k b) (twice-right k b) ≡ true
-  unfolding all-right
-  tested = is-true {b = both (once-right k b) (twice-right k b)} (below (λ (j : ℕ). both (once-right j b) (twice-right j b)) 5 (below all-right 256 right-everywhere b byte) k (omega arith))
-
-said : (mask b bits more mask′ : ℕ) → more ≤ 2 → right (leftOf mask) b bits more mask′ ≡ true → Stuffs b mask bits more mask′
-unfolding right
-said mask b bits more mask′ few e =
-    let S = stuffed (leftOf mask) (lowFirst 8 b) in
-    let first = same (take (8 + more) (lowFirst 10 bits)) S in
-    let third = eqb mask′ (maskOf (leftAfter (leftOf mask) (lowFirst 8 b))) in
-    let rest = both-right first (both (eqb (length S) (8 + more)) third) e in
-    record {
-      are = same→eq _ _ (both-left first (both (eqb (length S) (8 + more)) third) e);
-      long = eqb-true _ _ (both-left (eqb (length S) (8 + more)) third rest);
-      few = few;
-      after = eqb-true _ _ (both-right (eqb (length S) (8 + more)) third rest);
-    }
-
--- ---- the two ways through `stuff_byte`
-
-module _ (b mask : ℕ) (v : Valid mask) (byte : b < 256) where
-  both-right-here : both (once-right (leftOf mask) b) (twice-right (leftOf mask) b) ≡ true
-  both-right-here = tested (leftOf mask) b (v .few) byte
-
-  fifth-is : fifth (leftOf mask) b ≡ bitAnd (rowOf b) mask
-  unfolding fifth
-  fifth-is = ap (bitAnd (rowOf b)) (sym (v .is))
-
-  fifth-byte : bitAnd (rowOf b) mask < 256
-  fifth-byte = omega (arith, and-le-r (rowOf b) mask, mask-byte v)
-
-  pub stuffs-once : {row m high : ℕ} → row ≡ rowOf b → m ≡ bitAnd row mask → high ≡ aboveOf m → bitAnd m (high * 16) ≡ 0 → (b ≡ 255 → ⊥)
-      → Stuffs b mask (b + bitAnd b high) ((m + 255) / 256) (row / 256)
-  unfolding once-right twice once-bits
-  stuffs-once {row} {m} {high} er em eh e₀ ne =
-      let k = leftOf mask in
-      let f : fifth k b ≡ m = fifth-is ∙ sym (rw er at em) in
-      let h : aboveOf (fifth k b) ≡ high = ap aboveOf f ∙ sym eh in
-      let t : twice k b ≡ 0 = ap₂ (λ (x y : ℕ). bitAnd x (y * 16)) f h ∙ e₀ in
-      let r : right k b (once-bits k b) ((fifth k b + 255) / 256) (rowOf b / 256) ≡ true =
-      rw (eq-eqb (twice k b) 0 t, ne-eqb b 255 ne) at (both-left (once-right k b) (twice-right k b) both-right-here) in
-      let small : m < 256 = omega (arith, em ∙ ap (λ (x : ℕ). bitAnd x mask) er, fifth-byte) in
-      rw er (said mask b (b + bitAnd b high) ((m + 255) / 256) (rowOf b / 256) (omega arith) (rw (ap (λ (x : ℕ). b + bitAnd b x) h, f) at r))
-
-  pub stuffs-twice : {m after high second bits mask′ : ℕ} → m ≡ bitAnd (rowOf b) mask → after ≡ rowOf b / 256 → (bitAnd m (aboveOf m * 16) ≡ 0 → b ≡ 255)
-      → high ≡ aboveOf m → second ≡ bitAnd m (high * 16) → bits ≡ b + bitAnd b high + 2 * bitAnd b (aboveOf second) → mask′ ≡ pick (eqb b 255) (afterOnes mask) after
-      → second < 256 → Stuffs b mask bits (1 + (second + 255) / 256) mask′
-  unfolding twice-right twice twice-bits
-  stuffs-twice {m} {after} {high} {second} {bits} {mask′} em ea why eh es eb emask small =
-      let k = leftOf mask in
-      let f : fifth k b ≡ m = fifth-is ∙ sym em in
-      let h : aboveOf (fifth k b) ≡ high = ap aboveOf f ∙ sym eh in
-      let t : twice k b ≡ second = ap₂ (λ (x y : ℕ). bitAnd x (y * 16)) f h ∙ sym es in
-      let g : twice-bits k b ≡ bits = ap₂ (λ (x y : ℕ). b + bitAnd b x + 2 * bitAnd b (aboveOf y)) h t ∙ sym eb in
-      let c : pick (eqb (twice k b) 0) (eqb b 255) true ≡ true = choose (twice k b) (λ z. why (sym (ap₂ (λ (x y : ℕ). bitAnd x (y * 16)) f (ap aboveOf f)) ∙ z)) in
-      let w : pick (eqb b 255) (afterOnes (maskOf k)) (rowOf b / 256) ≡ mask′ = rw (← v .is, ← ea) (sym emask) in
-      let r : right k b (twice-bits k b) (1 + (twice k b + 255) / 256) (pick (eqb b 255) (afterOnes (maskOf k)) (rowOf b / 256)) ≡ true =
-      rw c at (both-right (once-right k b) (twice-right k b) both-right-here) in
-      said mask b bits (1 + (second + 255) / 256) mask′ (omega arith) (rw (g, t, w) at r)
-    where
-      choose : (t : ℕ) → (t ≡ 0 → b ≡ 255) → pick (eqb t 0) (eqb b 255) true ≡ true
-      choose zero h = simp (eq-eqb b 255 (h refl))
-      choose (suc t) h = simp (ne-eqb (suc t) 0 (λ z. omega arith))
-
--- ---- from byte to byte
-
-left-back : (k : ℕ) → k ≤ 4 → leftOf (maskOf k) ≡ k
-unfolding leftOf trailingZeros
-left-back zero h = refl
-left-back (suc zero) h = refl
-left-back (suc (suc zero)) h = refl
-left-back (suc (suc (suc zero))) h = refl
-left-back (suc (suc (suc (suc zero)))) h = refl
-left-back (suc (suc (suc (suc (suc k))))) h = absurd (omega arith)
-
-pub mask-valid : (k : ℕ) → k ≤ 4 → Valid (maskOf k)
-mask-valid k h = record { few = rw (left-back k h) h; is = ap maskOf (sym (left-back k h)) }
-
-pub toCome-long : (mask : ℕ) (bits : List ℕ) → length bits + 8 ≤ length (toCome mask bits)
+pub toCome-long : (tail : ℕ) (bits : List ℕ) → length bits + 8 ≤ length (toCome tail bits)
 unfolding toCome flag
-toCome-long mask bits = simp length-append (omega (arith, stuffed-least (leftOf mask) bits))
+toCome-long tail bits = simp length-append (omega (arith, stuffed-least (leftOf tail) bits))
 
-pub leads : {b mask bits more mask′ at : ℕ} {out out′ : List ℕ} → Valid mask → Stuffs b mask bits more mask′ → out′ ≡ sets out at (lowFirst 10 bits)
-    → Leads (lowFirst 8 b) (record { at = at; mask = mask }) out (record { at = at + 8 + more; mask = mask′ }) out′
-unfolding toCome
-leads {b} {mask} {bits} {more} {mask′} {at} {out} {out′} v s e =
-    let X = lowFirst 8 b in
-    let k = leftOf mask in
-    let k′ = leftAfter k X in
-    let few = leftAfter-bound k X (v .few) in
-    let l : leftOf mask′ ≡ k′ = ap leftOf (s .after) ∙ left-back k′ few in
-    let n : at + 8 + more ≡ at + (8 + more) = omega arith in
-    let split : (rest : List ℕ) → toCome mask (X ++ rest) ≡ stuffed k X ++ toCome mask′ rest = λ rest.
-    ap (_++ flag) (stuffed-append k X rest) ∙ append-assoc (stuffed k X) (stuffed k′ rest) flag ∙ ap (λ (j : ℕ). stuffed k X ++ (stuffed j rest ++ flag)) (sym l) in
-    record {
-      valid = rw (s .after) (mask-valid k′ few);
-      size = λ rest. omega (arith, ap length (split rest), length-append (stuffed k X) (toCome mask′ rest), s .long);
-      stored = λ rest. rw (n, e) (stored-and-more (lowFirst 10 bits) _ (toCome mask′ rest) out (8 + more) at (s .are) (s .long) (omega (arith, length-lowFirst 10 bits, toCome-long mask′ rest)))
-          ∙ ap (sets out at) (sym (split rest));
-    }
+-- 4 + m bits, of which 8 more are stored than there are
+module _ (m v : ℕ) {tail : ℕ} {x : Marked} (few : 4 + m ≤ 32) (fits : v < 2 ^ (4 + m)) (four : tail < 16) (s : Stuffs tail v x) where
+  S : List ℕ
+  S = stuffed (leftOf tail) (lowFirst (4 + m) v)
+
+  S-is : lowFirst (4 + m + x .done) (x .bits) ≡ S
+  unfolding S
+  S-is = s .are (4 + m) few fits
+
+  S-long : length S ≡ 4 + m + x .done
+  S-long = sym (ap length S-is) ∙ length-lowFirst (4 + m + x .done) (x .bits)
+
+  pub done-few : x .done ≤ 7
+  unfolding S
+  done-few = omega (arith, S-long, stuffed-bound (leftOf tail) (lowFirst (4 + m) v) (few-left tail four), length-lowFirst (4 + m) v)
+
+  tail-is : lastFour tail S ≡ x .bits / 2 ^ (m + x .done)
+  tail-is =
+      let p : 4 + m + x .done ≡ 4 + (m + x .done) = omega arith in
+      let q : (x .bits * 16 + tail) / 2 ^ 4 ≡ x .bits = omega arith in
+      ap (lastFour tail) (sym S-is) ∙ last-low (4 + m + x .done) tail (x .bits) (s .small (4 + m) few fits) ∙ ap (λ (k : ℕ). (x .bits * 16 + tail) / 2 ^ k) p
+      ∙ sym (shr-shr (x .bits * 16 + tail) 4 (m + x .done)) ∙ ap (λ (y : ℕ). y / 2 ^ (m + x .done)) q
+
+  left-is : leftOf (x .bits / 2 ^ (m + x .done)) ≡ leftAfter (leftOf tail) (lowFirst (4 + m) v)
+  unfolding S
+  left-is = ap leftOf (sym tail-is) ∙ last-left (leftOf tail) tail (lowFirst (4 + m) v) (low-bits (4 + m) v) four refl
+
+  pub leads : {at : ℕ} {out out′ : List ℕ} → out′ ≡ sets out at (lowFirst (4 + m + 8) (x .bits))
+      → Leads (lowFirst (4 + m) v) (record { at = at; tail = tail }) out (record { at = at + (4 + m) + x .done; tail = x .bits / 2 ^ (m + x .done) }) out′
+  unfolding toCome S
+  leads {at} {out} {out′} e =
+      let X = lowFirst (4 + m) v in
+      let k = leftOf tail in
+      let tail′ = x .bits / 2 ^ (m + x .done) in
+      let p : at + (4 + m) + x .done ≡ at + (4 + m + x .done) = omega arith in
+      let q : 4 + m + x .done ≡ 4 + (m + x .done) = omega arith in
+      let split : (rest : List ℕ) → toCome tail (X ++ rest) ≡ S ++ toCome tail′ rest = λ rest.
+      ap (_++ flag) (stuffed-append k X rest) ∙ append-assoc S (stuffed (leftAfter k X) rest) flag ∙ ap (λ (j : ℕ). S ++ (stuffed j rest ++ flag)) (sym left-is) in
+      record {
+        four = shr-lt 4 (m + x .done) (rw q at (s .small (4 + m) few fits));
+        size = λ rest. omega (arith, ap length (split rest), length-append S (toCome tail′ rest), S-long);
+        stored = λ rest. rw (p, e) (stored-and-more (lowFirst (4 + m + 8) (x .bits)) S (toCome tail′ rest) out (4 + m + x .done) at
+            (low-take (4 + m + x .done) (4 + m + 8) (x .bits) (omega (arith, done-few)) ∙ S-is) S-long (omega (arith, length-lowFirst (4 + m + 8) (x .bits), toCome-long tail′ rest)))
+            ∙ ap (sets out at) (sym (split rest));
+      }
 
 pub leads-on : {xs ys out out′ out″ : List ℕ} {s s′ s″ : Sending} → Leads xs s out s′ out′ → Leads ys s′ out′ s″ out″ → Leads (xs ++ ys) s out s″ out″
 leads-on {xs} {ys} {out} {out′} {out″} {s} {s′} {s″} a b = record {
-  valid = b .valid;
-  size = λ rest. b .size rest ∙ a .size (ys ++ rest) ∙ ap (λ (t : List ℕ). s .at + length (toCome (s .mask) t)) (sym (append-assoc xs ys rest));
-  stored = λ rest. b .stored rest ∙ a .stored (ys ++ rest) ∙ ap (λ (t : List ℕ). sets out (s .at) (toCome (s .mask) t)) (sym (append-assoc xs ys rest));
+  four = b .four;
+  size = λ rest. b .size rest ∙ a .size (ys ++ rest) ∙ ap (λ (t : List ℕ). s .at + length (toCome (s .tail) t)) (sym (append-assoc xs ys rest));
+  stored = λ rest. b .stored rest ∙ a .stored (ys ++ rest) ∙ ap (λ (t : List ℕ). sets out (s .at) (toCome (s .tail) t)) (sym (append-assoc xs ys rest));
 }
 
-pub leads-nowhere : {out : List ℕ} {s : Sending} → Valid (s .mask) → Leads [] s out s out
-leads-nowhere v = record { valid = v; size = λ rest. refl; stored = λ rest. refl }
+pub leads-nowhere : {out : List ℕ} {s : Sending} → s .tail < 16 → Leads [] s out s out
+leads-nowhere h = record { four = h; size = λ rest. refl; stored = λ rest. refl }

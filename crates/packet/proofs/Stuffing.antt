@@ -1,4 +1,4 @@
--- One turn of stuffing and unstuffing, by the tests that the code makes.
+-- Stuffing and unstuffing: lengths, one list after the other, and how each undoes the other.
 -- Assumes nothing.
 use mathlib.Core.Path.{_≡_, refl, ap, _∙_}
 use mathlib.Core.Bool.{true}
@@ -46,13 +46,6 @@ stuffed-append k [] ys = refl
 stuffed-append k (zero ∷ xs) ys = ap (λ (t : List ℕ). 0 ∷ t) (stuffed-append 4 xs ys)
 stuffed-append zero (suc x ∷ xs) ys = ap (λ (t : List ℕ). suc x ∷ 0 ∷ t) (stuffed-append 4 xs ys)
 stuffed-append (suc k) (suc x ∷ xs) ys = ap (λ (t : List ℕ). suc x ∷ t) (stuffed-append k xs ys)
-
-pub leftAfter-bound : (k : ℕ) (xs : List ℕ) → k ≤ 4 → leftAfter k xs ≤ 4
-unfolding leftAfter
-leftAfter-bound k [] h = h
-leftAfter-bound k (zero ∷ xs) h = leftAfter-bound 4 xs (omega arith)
-leftAfter-bound zero (suc x ∷ xs) h = leftAfter-bound 4 xs (omega arith)
-leftAfter-bound (suc k) (suc x ∷ xs) h = leftAfter-bound k xs (omega arith)
 
 -- what was stuffed is legal, and comes off again, whatever follows
 pub legal-stuffed : (k : ℕ) (xs ys : List ℕ) → legal (suc k) (stuffed k xs ++ ys) ≡ legal (suc (leftAfter k xs)) ys

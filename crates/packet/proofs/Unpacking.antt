@@ -1,34 +1,52 @@
 -- What `unpack` finds once all bits between the flags are taken.
 -- Assumes nothing.
-use mathlib.Core.Path.{_≡_, sym, ap, _∙_}
+use mathlib.Core.Path.{_≡_, refl, sym, ap, ap₂, _∙_}
 use mathlib.Core.Bool.{true, false}
-use mathlib.Core.List.{List, _∷_, _++_}
-use Prim.Native.Nat.{ℕ, suc, _+_, _-_, _*_, _/_, _≤_, _<_}
+use mathlib.Core.List.{List, _++_}
+use Prim.Native.Nat.{ℕ, _+_, _*_, _/_, _%_, _≤_, _<_}
 use native.Mathlib.Omega.{arith}
 use borrow.Author.Tests.{eq-eqb, ne-eqb}
-use lib.ListN.{length, take, drop}
-use lib.Seq.{take-at, take-take, take-all}
-use Rattle.laws.specs.Lists.{over}
-use Rattle.laws.proofs.Lists.{stored-over}
+use lib.ListN.{length, take, drop, length-append, take-append-drop}
+use lib.Seq.{sets, length-sets, take-at, drop-at, length-take-le}
 use Rattle.numbers.specs.declared.Refusal.the-variants.{BadStuffing, NotWhole}
-use Rattle.bits.specs.Bits.{allBits, sentBits, bytesOf, bytesIn}
-use Rattle.bits.proofs.Bytes.{length-bytesOf, sent-back}
-use Rattle.packet.specs.Check.{through}
+use Rattle.bits.specs.Bits.{lowFirst, sentBits, eightOf}
+use Rattle.bits.proofs.Bits.{length-lowFirst}
+use Rattle.bits.proofs.Bytes.{length-sent, sent-append}
+use Rattle.packet.specs.Check.{zeros}
 use Rattle.packet.specs.Stuff.{legal, unstuffed}
 use Rattle.packet.specs.Packet.{frameIn, frameAnswer, bodyAnswer}
 use Rattle.packet.specs.Taking.{Unstuffed}
 use Rattle.packet.specs.declared.Received.the-variants.{Refused}
 use Rattle.packet.specs.declared.unstuff.Taking.{Taking}
-use Rattle.packet.proofs.Stuffing.{unstuffed-bits}
 use Rattle.packet.proofs.Answers.{stuffing-bad, stuffing-good, count-odd, count-low, count-high, count-bad}
+use Rattle.packet.proofs.Takings.{stored-sent}
 
-module _ {body empty raw : List ℕ} {s : Taking} (u : Unstuffed body empty s raw) where
+zeros-long : length (zeros 32) ≡ 32
+unfolding zeros
+zeros-long = refl
+
+module _ {body raw : List ℕ} {s : Taking} (u : Unstuffed body s raw) where
   pub spoilt-bad : s .spoilt ≡ true → Refused BadStuffing ≡ bodyAnswer body
   spoilt-bad e = stuffing-bad body (sym (rw e at (u .law)))
 
   module _ (clean : s .spoilt ≡ false) where
     pub end-bad : s .tail ≡ 31 → Refused BadStuffing ≡ bodyAnswer body
     end-bad e = stuffing-bad body (sym (rw (clean, eq-eqb (s .tail) 31 e) at (u .law)))
+
+    size : 8 * s .count + s .have ≡ 32 + length (unstuffed 5 body)
+    size =
+        let S = sentBits (take (s .count) raw) in
+        let P = lowFirst (s .have) (s .part) in
+        omega (
+          arith,
+          ap length (u .stored clean),
+          length-append S P,
+          length-append (zeros 32) (unstuffed 5 body),
+          zeros-long,
+          length-sent (take (s .count) raw),
+          length-take-le (s .count) raw (u .sound .fits),
+          length-lowFirst (s .have) (s .part),
+        )
 
     module _ (some : s .tail ≡ 31 → ⊥) where
       pub body-legal : legal 5 body ≡ true
@@ -37,50 +55,43 @@ module _ {body empty raw : List ℕ} {s : Taking} (u : Unstuffed body empty s ra
       not-whole : Refused NotWhole ≡ frameAnswer (frameIn body) → Refused NotWhole ≡ bodyAnswer body
       not-whole h = h ∙ stuffing-good body body-legal
 
-      pub over-bad : (s .have ≡ 0 → ⊥) → Refused NotWhole ≡ bodyAnswer body
+      pub over-bad : (s .have % 8 ≡ 0 → ⊥) → Refused NotWhole ≡ bodyAnswer body
       unfolding frameIn
-      over-bad h = not-whole (count-bad _ (count-odd (unstuffed 5 body) (λ z. h (omega (arith, u .size clean, u .sound .under)))))
+      over-bad h = not-whole (count-bad _ (count-odd (unstuffed 5 body) (λ z. h (omega (arith, size)))))
 
-      module _ (none : s .have ≡ 0) where
-        frame-8 : length (unstuffed 5 body) + 8 ≡ 8 * s .count
-        frame-8 = omega (arith, u .size clean)
-
-        pub few-bad : s .count < 4 → Refused NotWhole ≡ bodyAnswer body
+      module _ (none : s .have % 8 ≡ 0) where
+        pub few-bad : s .count + s .have / 8 < 7 → Refused NotWhole ≡ bodyAnswer body
         unfolding frameIn
-        few-bad h = not-whole (count-bad _ (count-low (unstuffed 5 body) (omega (arith, frame-8))))
+        few-bad h = not-whole (count-bad _ (count-low (unstuffed 5 body) (omega (arith, size))))
 
-        pub many-bad : 24 < s .count → Refused NotWhole ≡ bodyAnswer body
+        pub many-bad : 27 < s .count + s .have / 8 → Refused NotWhole ≡ bodyAnswer body
         unfolding frameIn
-        many-bad h = not-whole (count-bad _ (count-high (unstuffed 5 body) (omega (arith, frame-8))))
+        many-bad h = not-whole (count-bad _ (count-high (unstuffed 5 body) (omega (arith, size))))
 
-        module _ (fits : s .count ≤ length empty) (bits : allBits body ≡ true) where
-          F : List ℕ
-          F = unstuffed 5 body
+        -- the last bytes stored, and all of them taken
+        module _ {raw′ : List ℕ} {n : ℕ} (long : length raw ≡ 40) (en : n ≡ s .count + s .have / 8) (enough : 7 ≤ n) (is : raw′ ≡ sets raw (s .count) (eightOf (s .part))) where
+          pub frame-long : length (take n raw′) ≡ n
+          frame-long = length-take-le n raw′ (omega (arith, u .room, ap length is, length-sets raw (s .count) (eightOf (s .part))))
 
-          bytes-long : length (bytesIn F) ≡ s .count - 1
-          unfolding bytesIn F
-          bytes-long = length-bytesOf (length F / 8) F ∙ omega (arith, frame-8)
+          all-sent : sentBits (take n raw′) ≡ zeros 32 ++ frameIn body
+          unfolding frameIn
+          all-sent =
+              let h : 8 * (s .have / 8) ≡ s .have = omega (arith, none) in
+              ap₂ (λ (m : ℕ) (t : List ℕ). sentBits (take m t)) en is ∙ stored-sent raw (s .count) (s .have / 8) (s .part) (omega (arith, u .room)) (omega (arith, u .sound .under))
+              ∙ ap (λ (m : ℕ). sentBits (take (s .count) raw) ++ lowFirst m (s .part)) h ∙ u .stored clean
 
-          frame-stored : take (s .count - 1) (drop 1 raw) ≡ bytesIn F
-          unfolding over F
-          frame-stored =
-              let B = bytesIn (unstuffed 5 body) in
-              let e : raw ≡ (0 ∷ B) ++ drop (suc (length B)) empty = u .stored clean ∙ stored-over (0 ∷ B) empty (omega (arith, bytes-long, frame-8)) in
-              ap (λ (t : List ℕ). take (s .count - 1) (drop 1 t)) e ∙ take-at B (drop (suc (length B)) empty) (s .count - 1) bytes-long
+          parts-sent : sentBits (take 4 (take n raw′)) ++ sentBits (drop 4 (take n raw′)) ≡ zeros 32 ++ frameIn body
+          parts-sent = let t = take n raw′ in sym (sent-append (take 4 t) (drop 4 t)) ∙ ap sentBits (take-append-drop 4 t) ∙ all-sent
 
-          pub frame-sent : sentBits (take (s .count - 1) (drop 1 raw)) ≡ frameIn body
-          unfolding frameIn bytesIn F
+          front-long : length (sentBits (take 4 (take n raw′))) ≡ 32
+          front-long = omega (arith, length-sent (take 4 (take n raw′)), length-take-le 4 (take n raw′) (omega (arith, frame-long)))
+
+          pub front-sent : sentBits (take 4 (take n raw′)) ≡ zeros 32
+          front-sent =
+              let t = take n raw′ in
+              sym (take-at (sentBits (take 4 t)) (sentBits (drop 4 t)) 32 front-long) ∙ ap (take 32) parts-sent ∙ take-at (zeros 32) (frameIn body) 32 zeros-long
+
+          pub frame-sent : sentBits (drop 4 (take n raw′)) ≡ frameIn body
           frame-sent =
-              let f = unstuffed 5 body in
-              let k : length f / 8 ≡ s .count - 1 = omega (arith, frame-8) in
-              ap sentBits (frame-stored ∙ ap (λ (m : ℕ). bytesOf m f) k)
-              ∙ sent-back (s .count - 1) f (omega (arith, frame-8)) (unstuffed-bits 5 body bits) ∙ take-all (8 * (s .count - 1)) f (omega (arith, frame-8))
-
-          pub frame-long : length (take (s .count - 1) (drop 1 raw)) ≡ s .count - 1
-          frame-long = ap length frame-stored ∙ bytes-long
-
-          pub frame-reg : s .reg ≡ through 0xffff (sentBits (take (length (take (s .count - 1) (drop 1 raw)) - 2) (take (s .count - 1) (drop 1 raw))))
-          frame-reg =
-              let n = s .count - 1 in
-              let e : length (take (s .count - 1) (drop 1 raw)) - 2 ≡ s .count - 3 = omega (arith, frame-long) in
-              u .sound .check ∙ ap (λ (t : List ℕ). through 0xffff (sentBits t)) (sym (ap (λ (m : ℕ). take m (take n (drop 1 raw))) e ∙ take-take (s .count - 3) n (drop 1 raw) (omega arith)))
+              let t = take n raw′ in
+              sym (drop-at (sentBits (take 4 t)) (sentBits (drop 4 t)) 32 front-long) ∙ ap (drop 32) parts-sent ∙ drop-at (zeros 32) (frameIn body) 32 zeros-long

@@ -1,12 +1,13 @@
 -- The check sequence: a register of 16 bits, all ones at first, goes through the bits as they are sent. Where the bit that
 -- leaves at the top differs from the bit that comes in, x^12 + x^5 + 1, which is 0x1021, is added to the rest.
 -- Assumes nothing.
-use Prim.Native.Nat.{ℕ, _-_, _*_, _/_, _%_, _^_}
+use Prim.Native.Nat.{ℕ, zero, suc, _+_, _-_, _*_, _/_, _%_, _^_}
 use mathlib.Core.List.{List, [], _∷_}
 use lib.Dec.{eqb}
 use lib.Bits.{bitXor}
 use Rattle.laws.specs.Tests.{pick}
-use Rattle.bits.specs.Bits.{highFirst}
+use Rattle.laws.specs.Tables.{tab}
+use Rattle.bits.specs.Bits.{lowFirst, highValue}
 
 unfoldable pub stepped : ℕ → ℕ → ℕ
 stepped r b = pick (eqb (r / 2 ^ 15) b) (r * 2 ^ 1 % 2 ^ 16) (bitXor (r * 2 ^ 1 % 2 ^ 16) 0x1021)
@@ -19,7 +20,23 @@ through r (b ∷ bs) = through (stepped r b) bs
 abbrev pub checkOf : List ℕ → ℕ
 checkOf bs = 0xffff - through 0xffff bs
 
--- what a byte makes of the register 0, its high bit first: an entry of the table by which the code goes
+-- ---- what the code goes by
+
+unfoldable pub zeros : ℕ → List ℕ
+zeros zero = []
+zeros (suc n) = 0 ∷ zeros n
+
+-- the register with its 16 bits in the other order: bits come in at its low end as they stand in their bytes
+unfoldable pub mirrored : ℕ → ℕ
+unfolding highValue lowFirst
+mirrored r = highValue 0 (lowFirst 16 r)
+
+-- an entry of the table: what four bits of the register, the lowest four, the next and so on, have become once 16 zeros have gone in,
+-- and, from entry 64 on, 32
 unfoldable pub entryOf : ℕ → ℕ
-unfolding through highFirst stepped
-entryOf h = through 0 (highFirst 8 h)
+unfolding zeros mirrored through stepped
+entryOf j = mirrored (through (mirrored (j % 16 * 2 ^ (4 * (j / 16 % 4)))) (zeros (16 + 16 * (j / 64))))
+
+unfoldable pub checkTable : List ℕ
+unfolding entryOf
+checkTable = tab entryOf 0 128

@@ -1,5 +1,6 @@
 pub mod Check
 pub mod Stuff
+pub mod Marks
 pub mod Sending
 pub mod Taking
 pub mod Packet

@@ -10,7 +10,7 @@ use Rattle.laws.specs.Tests.{both, between, ladder}
 use Rattle.laws.specs.Lists.{over, same}
 use Rattle.numbers.specs.declared.Refusal.the-variants.{NotBits, BadLength, NoRoom, NoFlag, BadStuffing, NotWhole, BadCheck}
 use Rattle.numbers.specs.Numbers.{numberOf}
-use Rattle.bits.specs.Bits.{allBits, highFirst, turned, sentBits, bytesOf}
+use Rattle.bits.specs.Bits.{allBits, highFirst, sentBits, bytesOf}
 use Rattle.packet.specs.Check.{checkOf}
 use Rattle.packet.specs.Stuff.{flag, stuffed, legal, unstuffed}
 use Rattle.packet.specs.declared.Written.{Written}
@@ -33,10 +33,6 @@ receivedNumber (Refused r) = numberOf r
 -- payload and check as sent, not stuffed
 unfoldable pub frameOf : List ℕ → List ℕ
 frameOf p = sentBits p ++ highFirst 16 (checkOf (sentBits p))
-
--- the same as bytes, each sent low bit first
-unfoldable pub frameBytes : List ℕ → List ℕ
-frameBytes p = p ++ (turned (checkOf (sentBits p) / 256) ∷ turned (checkOf (sentBits p) % 256) ∷ [])
 
 unfoldable pub packetOf : List ℕ → List ℕ
 packetOf p = flag ++ stuffed 4 (frameOf p) ++ flag

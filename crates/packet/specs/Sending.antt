@@ -1,54 +1,40 @@
--- What sending one byte comes to: the words for the contracts in src/stuff.rt.
+-- What sending bits comes to: the words for the contracts in src/stuff.rt.
 -- Assumes nothing.
-use Prim.Native.Nat.{ℕ, _+_, _-_, _*_, _/_, _%_, _≤_, _<_}
+use Prim.Native.Nat.{ℕ, _+_, _-_, _*_, _/_, _%_, _^_, _≤_, _<_}
 use mathlib.Core.Path.{_≡_}
 use mathlib.Core.List.{List, _++_}
-use lib.Bits.{bitAnd, bitXor}
-use lib.Count.{trailingZeros}
-use lib.Dec.{leb}
-use lib.ListN.{length, take}
+use lib.Bits.{bitAnd}
+use lib.ListN.{length}
 use lib.Seq.{sets}
-use Rattle.laws.specs.Tests.{pick}
 use Rattle.bits.specs.Bits.{lowFirst}
-use Rattle.packet.specs.Stuff.{flag, stuffed, leftAfter, maskOf, rowOf}
+use Rattle.packet.specs.Stuff.{flag, stuffed, leftAfter}
+use Rattle.packet.specs.Marks.{upToLowest}
+use Rattle.packet.specs.declared.marks.Marked.{Marked}
 use Rattle.packet.specs.declared.stuff.Sending.{Sending}
 
--- of eight bits, those above the lowest one
-unfoldable pub aboveOf : ℕ → ℕ
-aboveOf m = bitXor m ((256 - m) % 256)
-
--- how many ones may come before the one that a 0 follows
+-- how many ones may come before the one that a 0 follows, by the last four bits sent
 unfoldable pub leftOf : ℕ → ℕ
-leftOf mask = trailingZeros 8 mask
+leftOf tail = leftAfter 4 (lowFirst 4 tail)
 
-pub record Valid (mask : ℕ) : Type 0 where
-  pub few : leftOf mask ≤ 4
-  pub is : mask ≡ maskOf (leftOf mask)
+-- a 0 after the lowest bit that is marked, as the code computes it
+unfoldable pub zeroPut : Marked → Marked
+zeroPut s = record {
+  bits = s .bits + (s .bits - bitAnd (s .bits) (upToLowest (s .marks)));
+  marks = (s .marks - bitAnd (s .marks) (upToLowest (s .marks) * 2 ^ 4 % 2 ^ 64 + 15)) * 2;
+  done = s .done + (1 - upToLowest (s .marks) / 0x8000000000000000);
+}
 
-unfoldable pub afterOnes : ℕ → ℕ
-afterOnes mask = pick (leb (256 - mask) 4) (256 - (256 - mask) * 4) (256 - (256 - mask) / 8)
-
--- what is known of a byte that may need two zeros, or is all ones
-pub record Twice (b m after mask : ℕ) : Type 0 where
-  pub byte : b < 256
-  pub valid : Valid mask
-  pub fifths : m ≡ bitAnd (rowOf b) mask
-  pub next : after ≡ rowOf b / 256
-  pub why : bitAnd m (aboveOf m * 16) ≡ 0 → b ≡ 255
-
--- the first bits of a number, the lowest first, are those of the byte, stuffed; and this is the mask after it
-pub record Stuffs (byte mask bits more mask′ : ℕ) : Type 0 where
-  pub are : take (8 + more) (lowFirst 10 bits) ≡ stuffed (leftOf mask) (lowFirst 8 byte)
-  pub long : length (stuffed (leftOf mask) (lowFirst 8 byte)) ≡ 8 + more
-  pub few : more ≤ 2
-  pub after : mask′ ≡ maskOf (leftAfter (leftOf mask) (lowFirst 8 byte))
+-- the bits of a number, as many as it may be said to have, stuffed
+pub record Stuffs (tail v : ℕ) (s : Marked) : Type 0 where
+  pub are : (n : ℕ) → n ≤ 32 → v < 2 ^ n → lowFirst (n + s .done) (s .bits) ≡ stuffed (leftOf tail) (lowFirst n v)
+  pub small : (n : ℕ) → n ≤ 32 → v < 2 ^ n → s .bits < 2 ^ (n + s .done)
 
 -- what is still to be stored: these bits, stuffed, and the closing flag
 unfoldable pub toCome : ℕ → List ℕ → List ℕ
-toCome mask bits = stuffed (leftOf mask) bits ++ flag
+toCome tail bits = stuffed (leftOf tail) bits ++ flag
 
 -- sending these bits leads from one place to another: what comes after them completes what was to be stored
 pub record Leads (bits : List ℕ) (s : Sending) (out : List ℕ) (s′ : Sending) (out′ : List ℕ) : Type 0 where
-  pub valid : Valid (s′ .mask)
-  pub size : (rest : List ℕ) → s′ .at + length (toCome (s′ .mask) rest) ≡ s .at + length (toCome (s .mask) (bits ++ rest))
-  pub stored : (rest : List ℕ) → sets out′ (s′ .at) (toCome (s′ .mask) rest) ≡ sets out (s .at) (toCome (s .mask) (bits ++ rest))
+  pub four : s′ .tail < 16
+  pub size : (rest : List ℕ) → s′ .at + length (toCome (s′ .tail) rest) ≡ s .at + length (toCome (s .tail) (bits ++ rest))
+  pub stored : (rest : List ℕ) → sets out′ (s′ .at) (toCome (s′ .tail) rest) ≡ sets out (s .at) (toCome (s .tail) (bits ++ rest))

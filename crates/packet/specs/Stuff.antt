@@ -1,10 +1,8 @@
 -- Stuffing: a 0 is put in after every five ones in a row, also where the fifth is the last bit.
 -- Assumes nothing.
-use Prim.Native.Nat.{ℕ, zero, suc, _+_, _-_, _*_, _/_, _^_}
+use Prim.Native.Nat.{ℕ, zero, suc}
 use mathlib.Core.Bool.{Bool, true, false}
 use mathlib.Core.List.{List, [], _∷_}
-use lib.Bits.{bitAnd}
-use Rattle.bits.specs.Bits.{lowFirst}
 
 -- 01111110, which no stuffed bits hold
 unfoldable pub flag : List ℕ
@@ -38,22 +36,3 @@ unstuffed k [] = []
 unstuffed zero (x ∷ xs) = unstuffed 5 xs
 unstuffed (suc k) (zero ∷ xs) = 0 ∷ unstuffed 5 xs
 unstuffed (suc k) (suc x ∷ xs) = suc x ∷ unstuffed k xs
-
--- ---- a byte at once, its low bit first: what the code goes by
-
--- bit j is 1 where bits j to j+4 are ones
-abbrev pub fives : ℕ → ℕ
-fives w = bitAnd (bitAnd (bitAnd w (w / 2)) (bitAnd w (w / 2) / 4)) (w / 16)
-
--- which bits are a fifth one in a row, if those before the byte are ones
-unfoldable pub fifths : ℕ → ℕ
-fifths b = fives (b * 16 + 15)
-
--- which of them count, where so many ones may come before the one that a 0 follows: all but the lowest k
-abbrev pub maskOf : ℕ → ℕ
-maskOf k = 256 - 2 ^ k
-
--- for each byte, its fifths and, times 256, the mask after it, for a byte that is not all ones
-unfoldable pub rowOf : ℕ → ℕ
-unfolding fifths leftAfter lowFirst
-rowOf b = fifths b + 256 * maskOf (leftAfter 4 (lowFirst 8 b))

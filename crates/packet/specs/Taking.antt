@@ -1,4 +1,4 @@
--- What taking bits, eight at a time, keeps true: the words for the contracts in src/unstuff.rt.
+-- What taking bits, 32 at a time, keeps true: the words for the contracts in src/unstuff.rt.
 -- Assumes nothing.
 use Prim.Native.Nat.{ℕ, zero, suc, _+_, _-_, _*_, _/_, _%_, _^_, _≤_, _<_}
 use mathlib.Core.Path.{_≡_}
@@ -6,18 +6,14 @@ use mathlib.Core.Bool.{Bool, true, false, not}
 use mathlib.Core.List.{List, [], _∷_, _++_}
 use lib.Bits.{bitAnd}
 use lib.Dec.{eqb}
-use lib.ListN.{length, take, drop}
-use lib.Seq.{sets}
+use lib.ListN.{length, take}
 use Rattle.laws.specs.Tests.{pick}
-use Rattle.bits.specs.Bits.{lowFirst, sentBits, bytesIn}
-use Rattle.packet.specs.Check.{through}
-use Rattle.packet.specs.Stuff.{fives, legal, unstuffed}
-use Rattle.packet.specs.Sending.{aboveOf}
+use Rattle.bits.specs.Bits.{lowFirst, sentBits}
+use Rattle.packet.specs.Check.{zeros}
+use Rattle.packet.specs.Stuff.{legal, unstuffed}
+use Rattle.packet.specs.Marks.{fivesOf, upToLowest, kept}
+use Rattle.packet.specs.declared.marks.Marked.{Marked}
 use Rattle.packet.specs.declared.unstuff.Taking.{Taking}
-
-unfoldable pub zeros : ℕ → List ℕ
-zeros zero = []
-zeros (suc n) = 0 ∷ zeros n
 
 -- k: how many ones may come before a bit that was put in. How many may come after these bits
 unfoldable pub leftIn : ℕ → List ℕ → ℕ
@@ -38,28 +34,30 @@ clean (suc k) (suc x ∷ xs) = clean k xs
 unfoldable pub leftBy : ℕ → ℕ
 leftBy tail = leftIn 5 (lowFirst 5 tail)
 
--- of eight bits after these five, those that have five ones before them
+-- of 32 bits after these five, those that have five ones before them
 unfoldable pub putIn : ℕ → ℕ → ℕ
-putIn tail v = fives (v * 32 + tail) % 256
+putIn tail v = fivesOf (v * 32 + tail) % 2 ^ 32
 
--- where only one was put in, it is 1
-abbrev pub More : ℕ → ℕ → Type 0
-More tail v = bitAnd (putIn tail v) (aboveOf (putIn tail v)) ≡ 0 → bitAnd (putIn tail v) v ≡ 0 → ⊥
+-- the lowest marked bit left out, as the code computes it
+unfoldable pub leftOut : Marked → Marked
+leftOut s = record {
+  bits = (s .bits + bitAnd (s .bits) (upToLowest (s .marks))) / 2;
+  marks = (s .marks - bitAnd (s .marks) (upToLowest (s .marks))) / 2;
+  done = s .done + (1 - upToLowest (s .marks) / 0x8000000000000000);
+}
 
--- eight bits with those left out that were put in, after these five: the others, how many are gone, and whether one of them was 1
-pub record Unstuffs (tail v bits gone : ℕ) (spoilt : Bool) : Type 0 where
-  pub few : gone ≤ 2
-  pub told : spoilt ≡ not (clean (leftBy tail) (lowFirst 8 v))
-  pub are : spoilt ≡ false → lowFirst (8 - gone) bits ≡ unstuffed (leftBy tail) (lowFirst 8 v)
-  pub small : spoilt ≡ false → bits < 2 ^ (8 - gone)
-  pub left : spoilt ≡ false → leftBy (v / 8) ≡ leftIn (leftBy tail) (lowFirst 8 v)
+-- 32 bits with those left out that are marked: the others, and how many are gone
+pub record Leaves (v m : ℕ) (s : Marked) : Type 0 where
+  pub few : s .done ≤ 32
+  pub are : lowFirst (32 - s .done) (s .bits) ≡ kept (lowFirst 32 m) (lowFirst 32 v)
+  pub small : s .bits < 2 ^ (32 - s .done)
 
--- the numbers are in their ranges, and the register has gone through the bytes but for the first one and the last two
+-- the numbers are in their ranges
 pub record Sound (s : Taking) (raw : List ℕ) : Type 0 where
   pub five : s .tail < 32
-  pub under : s .have < 8
+  pub under : s .have < 32
   pub small : s .part < 2 ^ s .have
-  pub check : s .reg ≡ through 0xffff (sentBits (take (s .count - 3) (drop 1 raw)))
+  pub fits : s .count ≤ length raw
 
 -- the bits of the frame that are not stored yet, where `rest` is still to be taken
 unfoldable pub pending : Taking → List ℕ → List ℕ
@@ -68,23 +66,20 @@ pending s rest = lowFirst (s .have) (s .part) ++ unstuffed (leftBy (s .tail)) re
 unfoldable pub lawful : Taking → List ℕ → Bool
 lawful s rest = pick (s .spoilt) false (legal (leftBy (s .tail)) rest)
 
--- what is stored, and what is pending, still makes the frame, which goes to the start of `empty`; and what is to come still decides
--- whether all of it is legal
-pub record Going (frame : List ℕ) (verdict : Bool) (empty : List ℕ) (s : Taking) (raw rest : List ℕ) : Type 0 where
+-- what is stored, and what is pending, still makes the frame; and what is to come still decides whether all of it is legal
+pub record Going (frame : List ℕ) (verdict : Bool) (s : Taking) (raw rest : List ℕ) : Type 0 where
   pub law : lawful s rest ≡ verdict
-  pub size : s .spoilt ≡ false → 8 * s .count + length (pending s rest) ≡ length frame
-  pub goes : s .spoilt ≡ false → sets raw (s .count) (bytesIn (pending s rest)) ≡ sets empty 0 (bytesIn frame)
+  pub goes : s .spoilt ≡ false → sentBits (take (s .count) raw) ++ pending s rest ≡ frame
 
 -- taking these bits leads from one state to another
 pub record Took (bits : List ℕ) (s : Taking) (raw : List ℕ) (s′ : Taking) (raw′ : List ℕ) : Type 0 where
   pub sound : Sound s′ raw′
   pub more : 8 * s′ .count + s′ .have ≤ 8 * s .count + s .have + length bits
-  pub on : (frame : List ℕ) (verdict : Bool) (empty rest : List ℕ) → Going frame verdict empty s raw (bits ++ rest) → Going frame verdict empty s′ raw′ rest
+  pub on : (frame : List ℕ) (verdict : Bool) (rest : List ℕ) → Going frame verdict s raw (bits ++ rest) → Going frame verdict s′ raw′ rest
 
--- all bits of a body taken: it is told whether all was legal, how many bytes and bits the frame has, and after a first byte 0 its whole
--- bytes are stored
-pub record Unstuffed (body empty : List ℕ) (s : Taking) (raw : List ℕ) : Type 0 where
+-- all bits of a body taken: it is told whether all was legal; what is stored, and the bits that are not, are four bytes of zeros and the frame
+pub record Unstuffed (body : List ℕ) (s : Taking) (raw : List ℕ) : Type 0 where
   pub sound : Sound s raw
+  pub room : 8 * s .count + s .have ≤ 252
   pub law : pick (s .spoilt) false (not (eqb (s .tail) 31)) ≡ legal 5 body
-  pub size : s .spoilt ≡ false → 8 * s .count + s .have ≡ 8 + length (unstuffed 5 body)
-  pub stored : s .spoilt ≡ false → raw ≡ sets empty 0 (0 ∷ bytesIn (unstuffed 5 body))
+  pub stored : s .spoilt ≡ false → sentBits (take (s .count) raw) ++ lowFirst (s .have) (s .part) ≡ zeros 32 ++ unstuffed 5 body

@@ -2,6 +2,7 @@
 // lent buffer the content that specs/Packet.antt says; a refusal leaves the buffer as it was. specs/Promises.antt has both round trips,
 // "given exactly when" for each number, and that no second answer meets the contract.
 pub mod check;
+pub mod marks;
 pub mod reading;
 pub mod stuff;
 pub mod unstuff;

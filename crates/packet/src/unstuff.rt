@@ -1,134 +1,98 @@
-// Unstuffing, from bits to bytes, eight bits at a time. Promise: the bytes are those of `unstuffed` of the bits, and whether they are
+// Unstuffing, from bits to bytes, 32 bits at a time. Promise: the bytes are those of `unstuffed` of the bits, and whether they are
 // `legal` is told, as specs/Stuff.antt defines both bit by bit.
 ghost use mathlib.Core.Path.{_≡_};
-ghost use Prim.Native.Nat.{_+_, _-_, _*_, _≤_, _<_};
-ghost use lib.ListN.{length, take, drop};
-ghost use Rattle.laws.specs.Tables.{byteTable};
-ghost use Rattle.bits.specs.Bits.{turned, lowFirst, sentBits};
-ghost use Rattle.packet.specs.Check.{entryOf, through};
-ghost use Rattle.packet.specs.Taking.{putIn, More, Unstuffs, Sound, Took};
-use crate::check::step;
-use crate::stuff::above;
-use bits::turn::turn;
+ghost use Prim.Native.Nat.{_+_, _^_, _≤_, _<_};
+ghost use lib.Bits.{bitAnd};
+ghost use lib.ListN.{length};
+ghost use Rattle.bits.specs.Bits.{lowFirst};
+ghost use Rattle.packet.specs.Taking.{putIn, leftOut, Leaves, Sound, Took};
+use crate::marks::Marked;
+use crate::marks::fives;
+use crate::marks::up_to_lowest;
+use bits::store_eight;
 
-// Where taking bits stands: the last five, whether one that was put in was 1, the byte begun and how many bits it has, how many bytes are
-// whole, and the register after all of them but the first one and the last two.
+// Where taking bits stands: the last five, whether one that was put in was 1, the four bytes begun and how many bits they have, and how
+// many bytes are whole.
 pub struct Taking {
-    pub tail: u16,
+    pub tail: u64,
     pub spoilt: bool,
-    pub part: u16,
-    pub have: u16,
+    pub part: u64,
+    pub have: u64,
     pub count: usize,
-    pub reg: u16,
 }
 
-// Eight bits without those that were put in, and how many these are.
-pub struct Unstuffed {
-    pub bits: u16,
-    pub gone: u16,
-    pub spoilt: bool,
-}
-
-// Which of eight bits were put in: those with five ones before them.
-fn put_in(tail: u16, v: u16) -> u16
-    requires { ⌜ (tail < 32) × (v < 256) ⌝ }
+// Which of 32 bits were put in: those with five ones before them.
+fn put_in(tail: u64, v: u64) -> u64
+    requires { ⌜ (tail < 32) × (v < 2 ^ 32) ⌝ }
     ensures { λ r. ⌜ r ≡ putIn tail v ⌝ }
 {
-    let w = v * 32 + tail;
-    let two = w & (w / 2);
-    (two & (two / 4) & (w / 16)) % 256
+    fives(v * 32 + tail) % 0x100000000
 }
 
-// Two of them, or one that is 1.
-fn unstuff_more(tail: u16, v: u16, m: u16) -> Unstuffed
-    requires { ⌜ (tail < 32) × (v < 256) × (m ≡ putIn tail v) × More tail v ⌝ }
-    ensures { λ r. ⌜ Unstuffs tail v (r .bits) (r .gone) (r .spoilt) ⌝ }
+// The bits without the lowest one that is marked; as they are where none is.
+fn leave_out(s: Marked) -> Marked
+    requires { ⌜ (s .bits < 2 ^ 32) × (s .marks < 2 ^ 32) × (s .done ≤ 32) ⌝ }
+    ensures { λ r. ⌜ r ≡ leftOut s ⌝ }
 {
-    let high = above(m);
-    let second = m & high;
-    if m & v != 0 {
-        return Unstuffed {
-            bits: 0,
-            gone: 0,
-            spoilt: true,
-        };
-    }
-    Unstuffed {
-        bits: v - (v & high) / 2 - (v & above(second)) / 4,
-        gone: 2,
-        spoilt: false,
+    let low = up_to_lowest(s.marks);
+    Marked {
+        bits: (s.bits + (s.bits & low)) / 2,
+        marks: (s.marks - (s.marks & low)) / 2,
+        done: s.done + (1 - low / 0x8000000000000000),
     }
 }
 
-fn unstuff_byte(tail: u16, v: u16) -> Unstuffed
-    requires { ⌜ (tail < 32) × (v < 256) ⌝ }
-    ensures { λ r. ⌜ Unstuffs tail v (r .bits) (r .gone) (r .spoilt) ⌝ }
+// 32 bits without those that are marked. One is left out without a test: mostly there is none or one, and either goes the same way.
+fn unstuff_word(v: u64, m: u64) -> Marked
+    requires { ⌜ (v < 2 ^ 32) × (m < 2 ^ 32) × (bitAnd v m ≡ 0) ⌝ }
+    ensures { λ r. ⌜ Leaves v m r ⌝ }
 {
-    let m = put_in(tail, v);
-    let high = above(m);
-    if m & high != 0 {
-        return unstuff_more(tail, v, m);
+    let mut s = leave_out(Marked {
+        bits: v,
+        marks: m,
+        done: 0,
+    });
+    while s.marks != 0 {
+        s = leave_out(s);
     }
-    if m & v != 0 {
-        return unstuff_more(tail, v, m);
-    }
-    Unstuffed {
-        bits: v - (v & high) / 2,
-        gone: (m + 255) / 256,
-        spoilt: false,
-    }
+    s
 }
 
-// The register goes on by the byte before the last one, if there is one that counts.
-fn checked_on(turns: &[u8; 256], table: &[u16; 256], raw: &[u8], count: usize, reg: u16) -> u16
-    requires { ⌜ (now turns ≡ byteTable turned) × (now table ≡ byteTable entryOf) × (count < length (now raw)) × (reg ≡ through 0xffff (sentBits (take (count - 3) (drop 1 (now raw))))) ⌝ }
-    ensures { λ r. ⌜ r ≡ through 0xffff (sentBits (take (count + 1 - 3) (drop 1 (now (raw .entry))))) ⌝ }
+// 32 bits of the body, the lowest first. It always stores eight bytes; whatever comes next covers those too many.
+pub fn take_word(v: u64, raw: &mut [u8], s: Taking) -> Taking
+    requires { ⌜ (v < 2 ^ 32) × Sound s (now raw) × (s .count + 8 ≤ length (now raw)) ⌝ }
+    ensures { λ r. ⌜ Took (lowFirst 32 v) s (now (raw .entry)) r (now (raw .exit)) ⌝ }
 {
-    if count < 3 {
-        return reg;
-    }
-    step(table, reg, turn(turns, raw[count - 2]))
-}
-
-// Eight bits of the body, the lowest first.
-pub fn take_byte(turns: &[u8; 256], table: &[u16; 256], v: u8, raw: &mut [u8], s: Taking) -> Taking
-    requires { ⌜ (now turns ≡ byteTable turned) × (now table ≡ byteTable entryOf) × Sound s (now raw) × (8 * s .count + s .have + 8 ≤ 8 * length (now raw)) ⌝ }
-    ensures { λ r. ⌜ Took (lowFirst 8 v) s (now (raw .entry)) r (now (raw .exit)) ⌝ }
-{
-    let x = unstuff_byte(s.tail, v as u16);
-    let tail = (v / 8) as u16;
+    let m = put_in(s.tail, v);
+    let tail = v / 0x8000000;
     let have = s.have;
-    if x.spoilt {
+    let count = s.count;
+    if v & m != 0 {
         return Taking {
             tail,
             spoilt: true,
             part: s.part,
             have,
-            count: s.count,
-            reg: s.reg,
+            count,
         };
     }
-    let gone = x.gone;
+    let x = unstuff_word(v, m);
     let part = s.part + (x.bits << have);
-    if have < gone {
+    if have < x.done {
         return Taking {
             tail,
             spoilt: s.spoilt,
             part,
-            have: have + 8 - gone,
-            count: s.count,
-            reg: s.reg,
+            have: have + 32 - x.done,
+            count,
         };
     }
-    let count = s.count;
-    raw[count] = (part % 256) as u8;
-    let reg = checked_on(turns, table, raw, count, s.reg);
+    store_eight(raw, count, part);
     Taking {
         tail,
         spoilt: s.spoilt,
-        part: part / 256,
-        have: have - gone,
-        count: count + 1,
-        reg,
+        part: part / 0x100000000,
+        have: have - x.done,
+        count: count + 4,
     }
 }

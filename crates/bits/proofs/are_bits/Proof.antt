@@ -1,43 +1,65 @@
-use Prim.Native.Nat.{_-_}
 use mathlib.Core.Path.{sym, _∙_}
-use borrow.Author.Needs.{needs}
+use Prim.Native.Nat.{_-_, _*_, _/_}
+use native.Mathlib.Omega.{arith}
 use lib.ListN.{length}
-use Rattle.laws.proofs.Loops.{Fold, fold-none, fold-more, fold-end}
-use Rattle.bits.proofs.Bits.{upTo, upTo-larger, upTo-same, upTo-end}
+use lib.Seq.{length-take-le}
+use Rattle.bits.proofs.Bits.{blocks-yes, blocks-no}
+use borrow.Author.Needs.{needs}
 use Rattle.bits.proofs.are_bits.Statement.{statement}
 use Rattle.bits.proofs.are_bits.Tie as tie
 
-abbrev Inv-loop : tie.InvT-loop
-Inv-loop bits most₀ i₀ most i = Fold upTo 0 bits most i
+all-small-requires : tie.Need-all-small-requires
+all-small-requires c κs = search needs
 
-abbrev μ-loop : tie.MeasureT-loop
-μ-loop bits most₀ i₀ most i = length bits - i
+returns : tie.Need-returns
+returns c = search needs
 
-loop-holds : tie.Need-loop-holds Inv-loop μ-loop
-loop-holds c = fold-none _ _ _
+mul-whole : tie.Need-mul-whole
+mul-whole c = search needs
 
-shared-slice-read-b : tie.Need-shared-slice-read-b Inv-loop μ-loop
-shared-slice-read-b c = search needs
+slice-aggregate-all-small : tie.Need-slice-aggregate-all-small
+slice-aggregate-all-small c = sym (length-take-le _ (c .before .before .before .args .bits .now) (omega arith))
 
-add-i : tie.Need-add-i Inv-loop μ-loop
-add-i c = search needs
+all-small-requires-2 : tie.Need-all-small-requires-2
+all-small-requires-2 c κs = search needs
 
-loop-less : tie.Need-loop-less Inv-loop μ-loop
-loop-less c = search needs
+sub-all-small : tie.Need-sub-all-small
+sub-all-small c = search needs
 
-loop-again : tie.Need-loop-again Inv-loop μ-loop
-loop-again c = fold-more (c .before .before .before .loop .inv) (c .before .before .loop-test .taken) _ (upTo-larger _ _ _ (c .if1 .taken))
+part-all-small-start : tie.Need-part-all-small-start
+part-all-small-start c = search needs
 
-loop-less-2 : tie.Need-loop-less-2 Inv-loop μ-loop
-loop-less-2 c = search needs
+part-all-small-end : tie.Need-part-all-small-end
+part-all-small-end c = search needs
 
-loop-again-2 : tie.Need-loop-again-2 Inv-loop μ-loop
-loop-again-2 c = fold-more (c .before .before .before .loop .inv) (c .before .before .loop-test .taken) _ (upTo-same _ _ _ (c .if1 .left))
+all-small-requires-3 : tie.Need-all-small-requires-3
+all-small-requires-3 c κs = search needs
 
-returns : tie.Need-returns Inv-loop μ-loop
-returns c = sym (upTo-end (c .before .loop .most)) ∙ fold-end (c .before .loop .inv) (c .loop-test .left)
+returns-2 : tie.Need-returns-2
+returns-2 c =
+    let s = c .before .before .before .before .before .before .before in
+    let l = s .args .bits .now in
+    c .all-small3 .ensures
+    ∙ blocks-yes (length l / 32 * 32) (length l - 32) l (omega (arith, c .before .before .before .before .before .if1 .left)) (omega arith)
+    (sym (c .before .before .before .all-small2 .ensures) ∙ c .before .before .if2 .taken)
+
+returns-3 : tie.Need-returns-3
+returns-3 c =
+    let l = c .before .before .before .before .before .args .bits .now in
+    blocks-no (length l / 32 * 32) l (sym (c .before .all-small2 .ensures) ∙ c .if2 .left)
 
 pub are-bits-spec : {M : Type 1} → statement M
 are-bits-spec =
     tie.close
-    (tie.spec Inv-loop μ-loop loop-holds shared-slice-read-b add-i loop-less loop-again loop-less-2 loop-again-2 returns)
+    (tie.spec
+    all-small-requires
+    returns
+    mul-whole
+    slice-aggregate-all-small
+    all-small-requires-2
+    sub-all-small
+    part-all-small-start
+    part-all-small-end
+    all-small-requires-3
+    returns-2
+    returns-3)

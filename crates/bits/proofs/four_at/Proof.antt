@@ -1,21 +1,23 @@
 use mathlib.Core.Path.{refl}
-use Prim.Native.Nat.{ℕ, _+_, _≤_, _<_}
+use Prim.Native.Nat.{_+_, _<_}
 use native.Mathlib.Omega.{arith}
-use lib.ListN.{length, getD}
+use lib.ListN.{getD}
 use Rattle.bits.specs.Bits.{fourOf}
-use Rattle.bits.proofs.Bits.{bit-at}
 use borrow.Author.Needs.{needs}
 use Rattle.bits.proofs.four_at.Statement.{statement}
 use Rattle.bits.proofs.four_at.Tie as tie
 
-one : (c : tie.Start) (i : ℕ) → i < length (c .args .bits .now) → getD (c .args .bits .now) i 0 ≤ 1
-one c i h = bit-at (c .args .bits .now) i (c .pre .0) h
+bytes : (c : tie.After-shared-slice-known4) → let l = c .before .before .before .before .args in
+    (getD (l .bytes .now) (l .at) 0 < 256) × (getD (l .bytes .now) (l .at + 1) 0 < 256) × (getD (l .bytes .now) (l .at + 2) 0 < 256) × (getD (l .bytes .now) (l .at + 3) 0 < 256)
+bytes c =
+    let at = c .before .before .before .before .args .at in
+    (omega (arith, c .shared-slice-known4 .given at), omega (arith, c .shared-slice-known4 .given (at + 1)), omega (arith, c .shared-slice-known4 .given (at + 2)), omega (arith, c .shared-slice-known4 .given (at + 3)))
 
 shared-slice-read-a : tie.Need-shared-slice-read-a
 shared-slice-read-a c = search needs
 
 cast-a : tie.Need-cast-a
-cast-a c = omega (arith, one (c .before) (c .before .args .at) (omega arith))
+cast-a c = omega (arith, c .shared-slice-known .given (c .before .args .at))
 
 add-b : tie.Need-add-b
 add-b c = search needs
@@ -24,7 +26,7 @@ shared-slice-read-b : tie.Need-shared-slice-read-b
 shared-slice-read-b c = search needs
 
 cast-b : tie.Need-cast-b
-cast-b c = omega (arith, one (c .before .before) (c .before .before .args .at + 1) (omega arith))
+cast-b c = omega (arith, c .shared-slice-known2 .given (c .before .before .args .at + 1))
 
 add-c : tie.Need-add-c
 add-c c = search needs
@@ -33,7 +35,7 @@ shared-slice-read-c : tie.Need-shared-slice-read-c
 shared-slice-read-c c = search needs
 
 cast-c : tie.Need-cast-c
-cast-c c = omega (arith, one (c .before .before .before) (c .before .before .before .args .at + 2) (omega arith))
+cast-c c = omega (arith, c .shared-slice-known3 .given (c .before .before .before .args .at + 2))
 
 add-d : tie.Need-add-d
 add-d c = search needs
@@ -42,25 +44,25 @@ shared-slice-read-d : tie.Need-shared-slice-read-d
 shared-slice-read-d c = search needs
 
 cast-d : tie.Need-cast-d
-cast-d c = omega (arith, one (c .before .before .before .before) (c .before .before .before .before .args .at + 3) (omega arith))
+cast-d c = omega (arith, c .shared-slice-known4 .given (c .before .before .before .before .args .at + 3))
 
 mul-result : tie.Need-mul-result
-mul-result c = omega (arith, one (c .before .before .before .before) (c .before .before .before .before .args .at) (omega arith), one (c .before .before .before .before) (c .before .before .before .before .args .at + 1) (omega arith), one (c .before .before .before .before) (c .before .before .before .before .args .at + 2) (omega arith), one (c .before .before .before .before) (c .before .before .before .before .args .at + 3) (omega arith))
+mul-result c = let g = bytes c in omega (arith, g .0, g .1, g .2, g .3)
 
 add-result : tie.Need-add-result
-add-result c = omega (arith, one (c .before .before .before .before) (c .before .before .before .before .args .at) (omega arith), one (c .before .before .before .before) (c .before .before .before .before .args .at + 1) (omega arith), one (c .before .before .before .before) (c .before .before .before .before .args .at + 2) (omega arith), one (c .before .before .before .before) (c .before .before .before .before .args .at + 3) (omega arith))
+add-result c = let g = bytes c in omega (arith, g .0, g .1, g .2, g .3)
 
 mul-result-2 : tie.Need-mul-result-2
-mul-result-2 c = omega (arith, one (c .before .before .before .before) (c .before .before .before .before .args .at) (omega arith), one (c .before .before .before .before) (c .before .before .before .before .args .at + 1) (omega arith), one (c .before .before .before .before) (c .before .before .before .before .args .at + 2) (omega arith), one (c .before .before .before .before) (c .before .before .before .before .args .at + 3) (omega arith))
+mul-result-2 c = let g = bytes c in omega (arith, g .0, g .1, g .2, g .3)
 
 add-result-2 : tie.Need-add-result-2
-add-result-2 c = omega (arith, one (c .before .before .before .before) (c .before .before .before .before .args .at) (omega arith), one (c .before .before .before .before) (c .before .before .before .before .args .at + 1) (omega arith), one (c .before .before .before .before) (c .before .before .before .before .args .at + 2) (omega arith), one (c .before .before .before .before) (c .before .before .before .before .args .at + 3) (omega arith))
+add-result-2 c = let g = bytes c in omega (arith, g .0, g .1, g .2, g .3)
 
 mul-result-3 : tie.Need-mul-result-3
-mul-result-3 c = omega (arith, one (c .before .before .before .before) (c .before .before .before .before .args .at) (omega arith), one (c .before .before .before .before) (c .before .before .before .before .args .at + 1) (omega arith), one (c .before .before .before .before) (c .before .before .before .before .args .at + 2) (omega arith), one (c .before .before .before .before) (c .before .before .before .before .args .at + 3) (omega arith))
+mul-result-3 c = let g = bytes c in omega (arith, g .0, g .1, g .2, g .3)
 
 add-result-3 : tie.Need-add-result-3
-add-result-3 c = omega (arith, one (c .before .before .before .before) (c .before .before .before .before .args .at) (omega arith), one (c .before .before .before .before) (c .before .before .before .before .args .at + 1) (omega arith), one (c .before .before .before .before) (c .before .before .before .before .args .at + 2) (omega arith), one (c .before .before .before .before) (c .before .before .before .before .args .at + 3) (omega arith))
+add-result-3 c = let g = bytes c in omega (arith, g .0, g .1, g .2, g .3)
 
 returns : tie.Need-returns
 unfolding fourOf

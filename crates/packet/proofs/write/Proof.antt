@@ -1,4 +1,5 @@
 use mathlib.Core.Path.{refl, ap, _∙_}
+use native.Mathlib.Omega.{arith}
 use borrow.Author.Needs.{needs}
 use Rattle.packet.specs.Packet.{writeOut}
 use Rattle.packet.specs.declared.Written.the-variants.{Bits}
@@ -12,7 +13,7 @@ returns c = (write-low _ _ (c .if1 .taken), refl)
 
 returns-2 : tie.Need-returns-2
 unfolding writeOut
-returns-2 c = (write-high _ _ (c .if2 .taken), refl)
+returns-2 c = (write-high _ _ (omega (arith, c .if2 .taken)), refl)
 
 returns-3 : tie.Need-returns-3
 unfolding writeOut

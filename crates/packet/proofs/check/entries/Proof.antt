@@ -1,11 +1,10 @@
 use mathlib.Core.Path.{refl}
-use Rattle.laws.specs.Tables.{byteTable}
-use Rattle.packet.specs.Check.{entryOf}
+use Rattle.packet.specs.Check.{checkTable}
 use Rattle.packet.proofs.check.entries.Statement.{statement}
 use Rattle.packet.proofs.check.entries.Tie as tie
 
 returns : tie.Need-returns
-unfolding byteTable entryOf
+unfolding checkTable
 returns c = refl
 
 pub entries-spec : {M : Type 1} → statement M

@@ -1,33 +1,27 @@
-use mathlib.Core.Path.{ap, _∙_}
-use Prim.Native.Nat.{_*_, _/_, _%_, _<_}
-use native.Mathlib.Omega.{arith}
-use lib.Bits.{bitXor, xor-lt}
-use Rattle.laws.proofs.Table.{byte-entry}
-use Rattle.packet.specs.Check.{entryOf}
-use Rattle.packet.proofs.Register.{byte-step}
+use mathlib.Core.Path.{refl}
+use Rattle.laws.proofs.Xor.{xor}
+use Rattle.packet.proofs.Register.{four-in}
 use borrow.Author.Needs.{needs}
 use Rattle.packet.proofs.check.step.Statement.{statement}
 use Rattle.packet.proofs.check.step.Tie as tie
 
-cast-x : tie.Need-cast-x
-cast-x c = search needs
+cast-early : tie.Need-cast-early
+cast-early c = search needs
 
-x-byte : (c : tie.Start) → bitXor (c .args .reg / 256) (c .args .t) < 256
-x-byte c = xor-lt 8 (c .args .reg / 256) (c .args .t) (omega (arith, c .fits .reg)) (omega (arith, c .fits .t))
+cast-late : tie.Need-cast-late
+cast-late c = search needs
 
-cast-result : tie.Need-cast-result
-cast-result c = omega (arith, x-byte c)
+moved-on-requires : tie.Need-moved-on-requires
+moved-on-requires c κs = search needs
 
-mul-result : tie.Need-mul-result
-mul-result c = omega (arith, x-byte c)
-
-element-copy-out-result : tie.Need-element-copy-out-result
-element-copy-out-result c = x-byte c
+moved-on-requires-2 : tie.Need-moved-on-requires-2
+moved-on-requires-2 c κs = search needs
 
 returns : tie.Need-returns
+unfolding xor
 returns c =
-    let a = c .before .args in
-    ap (bitXor (a .reg * 256 % 65536)) (byte-entry entryOf (bitXor (a .reg / 256) (a .t)) (c .before .pre) (x-byte (c .before))) ∙ byte-step (a .reg) (a .t) (omega arith) (omega arith)
+    let s = c .before .before in
+    four-in (s .args .reg) (s .args .four) (c .before .moved-on .result) (c .moved-on2 .result) refl (c .before .moved-on .ensures) (c .moved-on2 .ensures)
 
 pub step-spec : {M : Type 1} → statement M
-step-spec = tie.close (tie.spec cast-x cast-result mul-result element-copy-out-result returns)
+step-spec = tie.close (tie.spec cast-early cast-late moved-on-requires moved-on-requires-2 returns)

@@ -1,34 +1,38 @@
 use Prim.Native.Nat.{_+_, _-_, _%_, _≤_}
 use mathlib.Core.Path.{_≡_, refl}
 use native.Mathlib.Omega.{arith}
-use lib.ListN.{length, take}
+use lib.ListN.{length, take, drop}
 use lib.Seq.{take-all, length-take-le}
+use Rattle.bits.proofs.Bits.{allBits-drop, value-bound}
 use Rattle.packet.specs.Taking.{Took}
 use Rattle.packet.proofs.Takings.{took-nothing}
-use Rattle.packet.proofs.Taken.{took-eight}
+use Rattle.packet.proofs.Taken.{took-word}
 use Rattle.packet.proofs.reading.take_all.Statement.{statement}
 use Rattle.packet.proofs.reading.take_all.Tie as tie
 
 abbrev Inv-loop : tie.InvT-loop
-Inv-loop turns table part raw₀ s₀ i₀ raw s i = Took (take i part) s₀ raw₀ s raw × (i ≤ length part) × (i % 8 ≡ 0) × (length raw ≡ length raw₀)
+Inv-loop part raw₀ s₀ i₀ raw s i = Took (take i part) s₀ raw₀ s raw × (i ≤ length part) × (i % 32 ≡ 0) × (length raw ≡ length raw₀)
 
 abbrev μ-loop : tie.MeasureT-loop
-μ-loop turns table part raw₀ s₀ i₀ raw s i = length part - i
+μ-loop part raw₀ s₀ i₀ raw s i = length part - i
 
 loop-holds : tie.Need-loop-holds Inv-loop μ-loop
-loop-holds c = (took-nothing (c .before .before .pre .4), omega arith, refl, refl)
+loop-holds c = (took-nothing (c .before .before .pre .2), omega arith, refl, refl)
 
-byte-at-requires : tie.Need-byte-at-requires Inv-loop μ-loop
-byte-at-requires c κs = (c .before .before .before .before .pre .2, omega (arith, c .before .before .before .before .pre .3, c .before .loop .inv .2, c .loop-test .taken))
+word-at-requires : tie.Need-word-at-requires Inv-loop μ-loop
+word-at-requires c κs = (c .before .before .before .before .pre .0, omega (arith, c .before .before .before .before .pre .1, c .before .loop .inv .2, c .loop-test .taken))
 
-take-byte-requires : tie.Need-take-byte-requires Inv-loop μ-loop
-take-byte-requires c κs =
+take-word-requires : tie.Need-take-word-requires Inv-loop μ-loop
+take-word-requires c κs =
     let s = c .before .before .before .before .before .before in
-    let l = c .before .before .before .loop in
-    (s .pre .0, s .pre .1, l .inv .0 .sound, omega (arith, l .inv .0 .more, length-take-le (l .i) (s .args .part .now) (l .inv .1), s .pre .5, s .pre .3, l .inv .2, c .before .before .loop-test .taken, l .inv .3))
+    let l = c .before .before .before .loop in (
+      omega (arith, c .before .word-at .ensures, value-bound 32 (drop (l .i) (s .args .part .now)) (allBits-drop (l .i) (s .args .part .now) (s .pre .0))),
+      l .inv .0 .sound,
+      omega (arith, l .inv .0 .more, length-take-le (l .i) (s .args .part .now) (l .inv .1), s .pre .3, s .pre .1, l .inv .2, c .before .before .loop-test .taken, l .inv .3),
+    )
 
 add-i : tie.Need-add-i Inv-loop μ-loop
-add-i c = omega (arith, c .before .before .before .before .before .before .before .before .before .pre .3, c .before .before .before .before .before .before .loop .inv .2, c .before .before .before .before .before .loop-test .taken, c .before .before .before .before .before .before .before .before .before .good)
+add-i c = omega (arith, c .before .before .before .before .before .before .before .before .before .pre .1, c .before .before .before .before .before .before .loop .inv .2, c .before .before .before .before .before .loop-test .taken, c .before .before .before .before .before .before .before .before .before .good)
 
 loop-less : tie.Need-loop-less Inv-loop μ-loop
 loop-less c = omega (arith, c .before .before .before .before .before .loop-test .taken)
@@ -37,8 +41,8 @@ loop-again : tie.Need-loop-again Inv-loop μ-loop
 loop-again c =
     let s = c .before .before .before .before .before .before .before .before .before in
     let l = c .before .before .before .before .before .before .loop in
-    let h : l .i + 8 ≤ length (s .args .part .now) = omega (arith, s .pre .3, l .inv .2, c .before .before .before .before .before .loop-test .taken) in
-    (took-eight (s .args .part .now) (l .i) h (s .pre .2) (c .before .before .before .before .byte-at .ensures) (l .inv .0) (c .before .before .take-byte .ensures), h, omega (arith, l .inv .2), omega (arith, c .before .before .take-byte .kept .1 .1 .1 .0, l .inv .3))
+    let h : l .i + 32 ≤ length (s .args .part .now) = omega (arith, s .pre .1, l .inv .2, c .before .before .before .before .before .loop-test .taken) in
+    (took-word (s .args .part .now) (l .i) (s .pre .0) h (c .before .before .before .before .word-at .ensures) (l .inv .0) (c .before .before .take-word .ensures), h, omega (arith, l .inv .2), omega (arith, c .before .before .take-word .kept .1 .0, l .inv .3))
 
 same-length : tie.Need-same-length Inv-loop μ-loop
 same-length c = c .before .loop .inv .3
@@ -53,8 +57,8 @@ take-all-spec =
     Inv-loop
     μ-loop
     loop-holds
-    byte-at-requires
-    take-byte-requires
+    word-at-requires
+    take-word-requires
     add-i
     loop-less
     loop-again

@@ -1,76 +1,86 @@
 use mathlib.Core.Path.{refl}
 use native.Mathlib.Omega.{arith}
-use Rattle.packet.proofs.Building.{packet-short, frame-room, flag-room, built-long, built}
-use Rattle.packet.proofs.Sending.{mask-valid}
+use Rattle.packet.specs.Check.{zeros}
+use Rattle.packet.proofs.Building.{packet-short, behind-four, frame-room, flag-room, built-long, built}
 use borrow.Author.Needs.{needs}
 use Rattle.packet.proofs.writing.build.Statement.{statement}
 use Rattle.packet.proofs.writing.build.Tie as tie
-use Rattle.packet.proofs.writing.build.Reads as reads
-use Rattle.packet.proofs.writing.build.Lts as lts
-use Rattle.bits.proofs.turn.turns.Reads as turns-reads
-use Rattle.packet.proofs.check.entries.Reads as entries-reads
-use Rattle.packet.proofs.stuff.rows.Reads as rows-reads
-use Rattle.packet.proofs.writing.put_flag.Reads as put-flag-reads
-use Rattle.packet.proofs.writing.send_frame.Reads as send-frame-reads
 
--- src/writing.rt:89:18
 turns-requires : tie.Need-turns-requires
 turns-requires c κs = search needs
 
--- src/writing.rt:90:17
-entries-requires : tie.Need-entries-requires
-entries-requires c κs = search needs
+slice-aggregate-put-frame : tie.Need-slice-aggregate-put-frame
+slice-aggregate-put-frame c = search needs
 
--- src/writing.rt:91:17
-rows-requires : tie.Need-rows-requires
-rows-requires c κs = search needs
+put-frame-requires : tie.Need-put-frame-requires
+unfolding zeros
+put-frame-requires c κs = (c .before .before .before .before .pre .0, refl)
 
--- src/writing.rt:92:5
 put-flag-requires : tie.Need-put-flag-requires
 put-flag-requires c κs = search needs
 
--- src/writing.rt:93:9
-send-frame-requires : tie.Need-send-frame-requires
-send-frame-requires c κs =
-    let s = c .before .before .before .before .before .before .before .before .before .before .before .before .before in
-    (c .before .before .before .before .before .before .before .before .before .before .turns .ensures, c .before .before .before .before .before .before .before .before .before .entries .ensures, c .before .before .before .before .before .before .before .before .rows .ensures, mask-valid 4 (omega arith), s .pre .0, frame-room (s .args .payload .now) (s .args .out .now) (s .pre .0) (s .pre .1) (c .before .before .before .before .before .before .put-flag .ensures) _ refl refl)
+add-end : tie.Need-add-end
+add-end c = search needs
 
--- src/writing.rt:102:5
+sub-send-all : tie.Need-sub-send-all
+sub-send-all c = search needs
+
+part-send-all-start : tie.Need-part-send-all-start
+part-send-all-start c = search needs
+
+part-send-all-end : tie.Need-part-send-all-end
+part-send-all-end c = search needs
+
+send-all-requires : tie.Need-send-all-requires
+send-all-requires c κs =
+    let s = c .before .before .before .before .before .before .before .before .before .before .before .before .before .before in
+    let p = s .args .payload .now in
+    let f = c .before .before .before .before .before .before .before .before .before .put-frame in
+    let is = behind-four p _ (f .kept .1 .0) (f .ensures) in
+    (c .before .before .before .before .before .before .before .before .before .before .before .turns .ensures, omega arith, frame-room p (s .args .out .now) (s .pre .0) (s .pre .1) (c .before .before .before .before .before .before .put-flag .ensures) is)
+
 put-flag-requires-2 : tie.Need-put-flag-requires-2
 put-flag-requires-2 c κs =
-    let s = c .before .before .before .before .before .before .before .before .before .before .before .before .before .before .before .before .before in
-    let e = c .before .before .before .send-frame in
-    flag-room (s .args .payload .now) (s .args .out .now) (s .pre .0) (s .pre .1) (c .before .before .before .before .before .before .before .before .before .before .put-flag .ensures) _ refl refl (e .ensures) (e .kept .1 .1 .1 .1 .0)
+    let s = c .before .before .before .before .before .before .before .before .before .before .before .before .before .before .before .before .before .before in
+    let p = s .args .payload .now in
+    let f = c .before .before .before .before .before .before .before .before .before .before .before .before .before .put-frame in
+    let is = behind-four p _ (f .kept .1 .0) (f .ensures) in
+    flag-room p (s .args .out .now) (s .pre .0) (s .pre .1) (c .before .before .before .before .before .before .before .before .before .before .put-flag .ensures) is (c .before .before .before .send-all .ensures) (c .before .before .before .send-all .kept .1 .1 .0)
 
--- src/writing.rt:103:5
 add-result : tie.Need-add-result
 add-result c =
-    let s = c .before .before .before .before .before .before .before .before .before .before .before .before .before .before .before .before .before .before .before .before in
-    let e = c .before .before .before .before .before .before .send-frame in
-    omega (arith, built-long (s .args .payload .now) (s .args .out .now) (s .pre .0) (s .pre .1) (c .before .before .before .before .before .before .before .before .before .before .before .before .before .put-flag .ensures) _ refl refl (e .ensures) (e .kept .1 .1 .1 .1 .0), packet-short (s .args .payload .now) (s .pre .0))
+    let s = c .before .before .before .before .before .before .before .before .before .before .before .before .before .before .before .before .before .before .before .before .before in
+    let p = s .args .payload .now in
+    let f = c .before .before .before .before .before .before .before .before .before .before .before .before .before .before .before .before .put-frame in
+    let is = behind-four p _ (f .kept .1 .0) (f .ensures) in
+    omega (arith, built-long p (s .args .out .now) (s .pre .0) (s .pre .1) (c .before .before .before .before .before .before .before .before .before .before .before .before .before .put-flag .ensures) is (c .before .before .before .before .before .before .send-all .ensures) (c .before .before .before .before .before .before .send-all .kept .1 .1 .0), packet-short p (s .pre .0))
 
--- src/writing.rt:85:1
 same-length : tie.Need-same-length
 same-length c = search needs
 
--- src/writing.rt:85:1
 returns : tie.Need-returns
 returns c =
-    let s = c .before .before .before .before .before .before .before .before .before .before .before .before .before .before .before .before .before .before .before .before in
-    let e = c .before .before .before .before .before .before .send-frame in (
-      built-long (s .args .payload .now) (s .args .out .now) (s .pre .0) (s .pre .1) (c .before .before .before .before .before .before .before .before .before .before .before .before .before .put-flag .ensures) _ refl refl (e .ensures) (e .kept .1 .1 .1 .1 .0),
-      built (s .args .payload .now) (s .args .out .now) (s .pre .0) (s .pre .1) (c .before .before .before .before .before .before .before .before .before .before .before .before .before .put-flag .ensures) _ refl refl (e .ensures) (e .kept .1 .1 .1 .1 .0) (c .before .before .put-flag2 .ensures),
-    )
+    let s = c .before .before .before .before .before .before .before .before .before .before .before .before .before .before .before .before .before .before .before .before .before in
+    let p = s .args .payload .now in
+    let f = c .before .before .before .before .before .before .before .before .before .before .before .before .before .before .before .before .put-frame in
+    let is = behind-four p _ (f .kept .1 .0) (f .ensures) in
+    let e = c .before .before .before .before .before .before .send-all in
+    let flagged = c .before .before .before .before .before .before .before .before .before .before .before .before .before .put-flag .ensures in
+    (built-long p (s .args .out .now) (s .pre .0) (s .pre .1) flagged is (e .ensures) (e .kept .1 .1 .0), built p (s .args .out .now) (s .pre .0) (s .pre .1) flagged is (e .ensures) (e .kept .1 .1 .0) (c .before .before .put-flag2 .ensures))
 
 pub build-spec : {M : Type 1} → statement M
 build-spec =
     tie.close
     (tie.spec
     turns-requires
-    entries-requires
-    rows-requires
+    slice-aggregate-put-frame
+    put-frame-requires
     put-flag-requires
-    send-frame-requires
+    add-end
+    sub-send-all
+    part-send-all-start
+    part-send-all-end
+    send-all-requires
     put-flag-requires-2
     add-result
     same-length

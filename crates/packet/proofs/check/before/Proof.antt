@@ -1,0 +1,28 @@
+use mathlib.Core.Path.{_≡_}
+use Prim.Native.Nat.{ℕ, _<_}
+use native.Mathlib.Omega.{arith}
+use Rattle.packet.proofs.Register.{none-before, one-before, two-before, three-before}
+use Rattle.packet.proofs.check.before.Statement.{statement}
+use Rattle.packet.proofs.check.before.Tie as tie
+
+three : (n : ℕ) → n < 4 → (n ≡ 0 → ⊥) → (n ≡ 1 → ⊥) → (n ≡ 2 → ⊥) → n ≡ 3
+three n h a b c = omega arith
+
+returns : tie.Need-returns
+returns c = rw (c .match .keys1) none-before
+
+returns-2 : tie.Need-returns-2
+returns-2 c = rw (c .match .keys2) one-before
+
+returns-3 : tie.Need-returns-3
+returns-3 c = rw (c .match .keys3) two-before
+
+returns-4 : tie.Need-returns-4
+returns-4 c =
+    let r = c .match .rest in
+    let n = c .before .args .count in
+    let e : n ≡ 3 = three n (c .before .pre) (r .0 .0 .1) (r .0 .1) (r .1) in
+    rw e three-before
+
+pub before-spec : {M : Type 1} → statement M
+before-spec = tie.close (tie.spec returns returns-2 returns-3 returns-4)
