@@ -17,7 +17,7 @@ use reporting::Time;
 use ship::Ship;
 
 // The first column.
-pub fn tallies_out(reg: &[Station], a: &mut [u16; 255], x: Ask)
+fn tallies_out(reg: &[Station], a: &mut [u16; 255], x: Ask)
     ensures { λ _. ⌜ now (a .exit) ≡ filled (tallyOf x) (now (reg .entry)) (now (a .entry)) ⌝ }
 {
     if reg.len() == 255 {
@@ -30,7 +30,7 @@ pub fn tallies_out(reg: &[Station], a: &mut [u16; 255], x: Ask)
 }
 
 // The second column.
-pub fn words_out(reg: &[Station], a: &mut [u32; 255], x: Ask)
+fn words_out(reg: &[Station], a: &mut [u32; 255], x: Ask)
     ensures { λ _. ⌜ now (a .exit) ≡ filled (wordOf x) (now (reg .entry)) (now (a .entry)) ⌝ }
 {
     if reg.len() == 255 {
@@ -43,7 +43,7 @@ pub fn words_out(reg: &[Station], a: &mut [u32; 255], x: Ask)
 }
 
 // Back to the register: each record settled by its two numbers and the order.
-pub fn settle_back(reg: &mut [Station], a: &[u16; 255], b: &[u32; 255], z: Order)
+fn settle_back(reg: &mut [Station], a: &[u16; 255], b: &[u32; 255], z: Order)
     ensures { λ _. ⌜ now (reg .exit) ≡ settled (settle z) (now (reg .entry)) (now (a .entry)) (now (b .entry)) ⌝ }
 {
     if reg.len() == 255 {

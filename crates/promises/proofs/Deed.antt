@@ -1,0 +1,70 @@
+-- The deed is kept.
+-- Assumes nothing.
+use Rattle.packet.proofs.RoundTrip as packet
+use Rattle.packet.proofs.Exactly as packet-numbers
+use Rattle.message.proofs.RoundTrip as message
+use Rattle.message.proofs.Exactly as message-numbers
+use Rattle.ship.proofs.Promised as ship
+use Rattle.book.proofs.Promised as book
+use Rattle.hearing.proofs.Promised as hearing
+use Rattle.choice.proofs.Promised as choice
+use Rattle.choosing.proofs.Promised as choosing
+use Rattle.reporting.proofs.Promised as reporting
+use Rattle.board.proofs.Once as board
+use Rattle.calls.proofs.Promised as calls
+use Rattle.calls.proofs.Passing as passing
+use Rattle.journal.proofs.Promised as journal
+use Rattle.promises.specs.Deed.{Deed}
+use Rattle.promises.proofs.Holders.{holders-by-events}
+use Rattle.promises.proofs.Counted.{tallies-are-counts, all-make-the-whole}
+use Rattle.promises.proofs.Windows.{own-in-windows}
+use Rattle.promises.proofs.Twelve.{marked-examples}
+
+pub deed : Deed
+deed =
+    record {
+      refuses = record {
+        packet-written = packet-numbers.write-exactly;
+        packet-read = packet-numbers.read-exactly;
+        message-written = message-numbers.write-exactly;
+        message-read = message-numbers.read-exactly;
+        bytes-heard = hearing.bytes-exactly;
+        heard = hearing.hear-exactly;
+        planned = book.plan-exactly;
+        own = ship.own-exactly;
+        chosen = choosing.choose-exactly;
+        reported = reporting.report-exactly;
+        nothing-changed = calls.refused-keeps-all;
+        only-passes = passing.refused-still-passes;
+      };
+      agrees = record {
+        packet-back = packet.read-after-write;
+        packet-again = packet.write-after-read;
+        message-back = message.read-after-write;
+        message-again = message.write-after-read;
+        holders = holders-by-events;
+        picked = choosing.chosen-is-candidate;
+        equal-draws = choice.equal-draws-each;
+        rest-sent-back = choice.rest-sent-back;
+        none-exactly = choice.none-exactly;
+        reused-only-under-four = choice.held-only-under-four;
+        farthest-first = choice.farthest-first;
+        ties-to-the-earlier = choice.ties-to-the-earlier;
+        cut-anywhere = journal.however-cut;
+        sum-is-last = journal.sum-is-last;
+      };
+      adds = record { tallies = tallies-are-counts; whole = all-make-the-whole; windows = own-in-windows };
+      once = record {
+        packet-written = packet.write-once;
+        packet-read = packet.read-once;
+        message-written = message.write-once;
+        message-read = message.read-once;
+        board-packet-written = board.packet-write-once;
+        board-packet-read = board.packet-read-once;
+        board-message-written = board.message-write-once;
+        board-message-read = board.message-read-once;
+        called = calls.one-answer;
+        stepped = journal.one-answer;
+      };
+      examples = marked-examples;
+    }

@@ -1,0 +1,138 @@
+-- Who holds a slot time, by the list of past events alone: no book, no places, no records.
+-- Assumes nothing.
+use Prim.Native.Nat.{ℕ, _+_, _-_, _*_, _<_}
+use mathlib.Core.Path.{_≡_}
+use mathlib.Core.List.{List, [], _∷_}
+use lib.Dec.{eqb}
+use lib.ListN.{getD}
+use Rattle.laws.specs.Tests.{pick}
+use Rattle.laws.specs.Ranges.{some}
+use Rattle.book.specs.Book.{slotTimes, ours, place}
+use Rattle.hearing.specs.declared.Told.{Told}
+use Rattle.hearing.specs.declared.Told.the-variants.{Station as Told·Station, Refused as NotTold}
+use Rattle.hearing.specs.Acts.{Act}
+use Rattle.hearing.specs.Acts.Act.{mark, free}
+use Rattle.hearing.specs.Announce.{announces}
+use Rattle.register.specs.declared.What.{What}
+use Rattle.register.specs.declared.What.the-variants.{Nothing, Hear, Plan, Own, Choose, Report, New, Sum}
+use Rattle.cores.specs.declared.Answer.{Answer}
+use Rattle.cores.specs.declared.Answer.the-variants.{Begun, Passed, Heard, Planned, Set, Chosen, Report as Reported, Refused, Sum as Summed}
+use Rattle.promises.specs.Calls.{State, Call, outOf, afterAll, sourcesIn}
+
+-- ---- events
+
+pub data Event : Type 0 where
+  -- so many slots passed
+  passed : ℕ → Event
+  -- the station with this source was heard: it marks and frees slot times, each so far ahead
+  heard : ℕ → List Act → Event
+  -- a slot so far ahead became ours, and in so many frames after it
+  owned : ℕ → ℕ → Event
+  -- a plan was set, and our marks were given up
+  planned : Event
+
+-- what a station that was heard says, by what was asked
+abbrev pub toldIn : Told → List Event → List Event
+toldIn (Told·Station x) es = heard (x .source) (announces (x .state)) ∷ es
+toldIn (NotTold r) es = es
+
+abbrev pub heardIn : What → List Event → List Event
+heardIn Nothing es = es
+heardIn (Hear t) es = toldIn t es
+heardIn (Plan q) es = es
+heardIn (Own p) es = es
+heardIn (Choose a) es = es
+heardIn (Report t) es = es
+heardIn New es = es
+heardIn Sum es = es
+
+-- the time-out of a slot that was chosen
+abbrev pub timeOutIn : What → ℕ
+timeOutIn Nothing = 0
+timeOutIn (Hear t) = 0
+timeOutIn (Plan q) = 0
+timeOutIn (Own p) = 0
+timeOutIn (Choose a) = a .timeout
+timeOutIn (Report t) = 0
+timeOutIn New = 0
+timeOutIn Sum = 0
+
+-- what has happened once a call is answered, after es: nothing more where it was refused or only looks, nothing at all where the book is new
+abbrev pub pastBy : Answer → What → List Event → List Event
+pastBy Passed q es = es
+pastBy (Heard m) q es = heardIn q es
+pastBy Planned q es = planned ∷ es
+pastBy Set q es = es
+pastBy (Chosen s) q es = owned (s .distance) (timeOutIn q) ∷ es
+pastBy (Reported m) q es = es
+pastBy (Refused r) q es = es
+pastBy Begun q es = []
+pastBy (Summed n) q es = es
+
+-- the events of a row of calls since the book was new, the last one first: by what was asked and what was answered
+unfoldable pub pastOf : List Call → List Event
+pastOf [] = []
+pastOf (c ∷ cs) = pastBy (outOf (afterAll cs) c .answer .answer) (c .what) (passed (c .passes) ∷ pastOf cs)
+
+-- ---- the holder of a slot time
+
+pub data Who : Type 0 where
+  nobody : Who
+  us : Who
+  station : ℕ → Who
+
+-- a mark of the station s, which never replaces ours; a freeing by it; our giving up
+unfoldable pub markedBy : ℕ → Who → Who
+markedBy s nobody = station s
+markedBy s us = us
+markedBy s (station x) = station s
+
+unfoldable pub freedBy : ℕ → Who → Who
+freedBy s nobody = nobody
+freedBy s us = us
+freedBy s (station x) = pick (eqb x s) nobody (station x)
+
+unfoldable pub givenUp : Who → Who
+givenUp nobody = nobody
+givenUp us = nobody
+givenUp (station x) = station x
+
+-- slot times are counted since the book was new: so many slots have passed
+abbrev pub passesIn : Event → ℕ
+passesIn (passed n) = n
+passesIn (heard s l) = 0
+passesIn (owned d m) = 0
+passesIn planned = 0
+
+unfoldable pub timeOf : List Event → ℕ
+timeOf [] = 0
+timeOf (e ∷ es) = passesIn e + timeOf es
+
+-- the slot time t, held by y before, after the acts of the station s at the time u
+unfoldable pub actedOn : ℕ → ℕ → ℕ → List Act → Who → Who
+actedOn s u t [] y = y
+actedOn s u t (mark d ∷ l) y = actedOn s u t l (pick (eqb t (u + d)) (markedBy s y) y)
+actedOn s u t (free d ∷ l) y = actedOn s u t l (pick (eqb t (u + d)) (freedBy s y) y)
+
+unfoldable pub afterEvent : Event → ℕ → ℕ → Who → Who
+afterEvent (passed n) u t y = y
+afterEvent (heard s l) u t y = actedOn s u t l y
+afterEvent (owned d m) u t y = pick (some (λ i. eqb t (u + (d + 2250 * i))) (m + 1)) us y
+afterEvent planned u t y = givenUp y
+
+unfoldable pub holderOf : List Event → ℕ → Who
+holderOf [] t = nobody
+holderOf (e ∷ es) t = afterEvent e (timeOf es) t (holderOf es t)
+
+-- ---- demand 2: the holder of every slot time is the one that the list of past events gives
+
+-- the holder number x, by the records' sources
+unfoldable pub whoOf : List ℕ → ℕ → Who
+whoOf sources x = pick (eqb x 0) nobody (pick (eqb x ours) us (station (getD sources (x - 1) 0)))
+
+-- who holds the slot time d ahead, in the book and the register
+abbrev pub whoIn : State → ℕ → Who
+whoIn s d = whoOf (sourcesIn s) (getD (s .book) (place (s .watch .present) d) 0)
+
+abbrev pub HoldersByEvents : Type 0
+HoldersByEvents = (cs : List Call) (d : ℕ) → d < slotTimes → whoIn (afterAll cs) d ≡ holderOf (pastOf cs) (timeOf (pastOf cs) + d)

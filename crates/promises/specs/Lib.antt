@@ -1,0 +1,6 @@
+pub mod Calls
+pub mod Deed
+pub mod Examples
+pub mod History
+pub mod Tallies
+pub mod Windows
