@@ -19,6 +19,7 @@ use Rattle.promises.proofs.Holders.{holders-by-events}
 use Rattle.promises.proofs.Counted.{tallies-are-counts, all-make-the-whole}
 use Rattle.promises.proofs.Windows.{own-in-windows}
 use Rattle.promises.proofs.Twelve.{marked-examples}
+use Rattle.promises.proofs.Contracts.{by-the-code}
 
 pub deed : Deed
 deed =
@@ -66,5 +67,6 @@ deed =
         called = calls.one-answer;
         stepped = journal.one-answer;
       };
+      code = by-the-code;
       examples = marked-examples;
     }

@@ -1,5 +1,6 @@
 pub mod Announced
 pub mod Choosing
+pub mod Contracts
 pub mod Counted
 pub mod Deed
 pub mod Ended

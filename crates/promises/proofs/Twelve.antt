@@ -6,7 +6,21 @@ use Rattle.plan.specs.Examples.{gapsOf, figures}
 use Rattle.message.specs.Signs.{signedOf}
 use Rattle.message.specs.State.{slotsOf, distanceOf}
 use Rattle.choice.proofs.Examples.{marked-examples as choices}
-use Rattle.promises.specs.Examples.{MarkedExamples, example1, example2, example3, example4, example7, example8, example9, example10}
+use Rattle.promises.specs.Examples.{
+  AllHold,
+  example1,
+  example2,
+  example3,
+  example4,
+  example7,
+  example8,
+  example9,
+  example10,
+  example11,
+  example12,
+  MarkedExamples,
+}
+use Rattle.promises.specs.Examples.Claims.{none, also}
 
 one : example1
 unfolding along nominal after gap gapsOf
@@ -40,23 +54,8 @@ ten : example10
 unfolding slotsOf
 ten sync keep = refl
 
+from-seven : AllHold (also example7 (also example8 (also example9 (also example10 (also example11 (also example12 none))))))
+from-seven = (seven, (eight, (nine, (ten, (choices .example-11, (choices .example-12, tt))))))
+
 pub marked-examples : MarkedExamples
-marked-examples = (
-  one,
-  (
-    two,
-    (
-      three,
-      (
-        four,
-        (
-          choices .example-5,
-          (
-            choices .example-6,
-            (seven, (eight, (nine, (ten, (choices .example-11, (choices .example-12, tt)))))),
-          ),
-        ),
-      ),
-    ),
-  ),
-)
+marked-examples = (one, (two, (three, (four, (choices .example-5, (choices .example-6, from-seven))))))

@@ -23,6 +23,7 @@ use Rattle.reporting.specs.Promises as reporting
 use Rattle.board.specs.Promises as board
 use Rattle.calls.specs.Promises as calls
 use Rattle.journal.specs.Promises as journal
+use Rattle.promises.specs.Contracts.{ByTheCode}
 use Rattle.promises.specs.History.{HoldersByEvents}
 use Rattle.promises.specs.Tallies.{TalliesAreCounts, AllMakeTheWhole}
 use Rattle.promises.specs.Windows.{OwnInWindows}
@@ -84,4 +85,5 @@ pub record Deed : Type 0 where
   pub agrees : Agrees
   pub adds : Adds
   pub once : Once
+  pub code : ByTheCode
   pub examples : MarkedExamples

@@ -1,4 +1,5 @@
 pub mod Calls
+pub mod Contracts
 pub mod Deed
 pub mod Examples
 pub mod History
