@@ -1,6 +1,7 @@
 # make run      run the event log of document 01's example through slotbook, and print its lines; with LOG=FILE a log that FILE has as text
 # make test     the gate: every proof, every must-fail edit, every comparison; its last line is the sum
 # make compare  slotbook beside the second program on many more logs: LOGS=2000 well made, BAD=5000 ill made, from the seed FROM on
+# make air      our packets as sound, heard by two receivers that nobody here wrote, Debian's direwolf and gnuais; it installs them
 # make bench    packets and messages, written and read, beside plain C, the best C by hand and the second program, as ratios; choosing; and a
 #               day at sea
 #
@@ -58,7 +59,7 @@ LOGS := 2000
 BAD := 5000
 FROM := 1001
 
-.PHONY: run test compare bench tools programs clean
+.PHONY: run test compare air bench tools programs clean
 
 run: tools $(SLOTBOOK) $(if $(LOG),build/logtext)
 	@$(if $(LOG),build/logtext to-log <$(LOG) |) $(SLOTBOOK_RUN) $(SLOTBOOK) $(if $(LOG),,<crates/slotbook/stdin)
@@ -68,6 +69,9 @@ test: tools
 
 compare: tools $(SLOTBOOK) $(LOG_PROGRAMS)
 	@tests/logs $(FROM) $(LOGS) $(BAD) $(SLOTBOOK_RUN) $(SLOTBOOK)
+
+air: tools build/example build/air_audio
+	@tests/air vectors $(X86_RUN) build/example
 
 bench: tools $(BENCHES)
 	@$(X86_RUN) build/bench_packet "$(WHERE)"
@@ -92,6 +96,9 @@ $(SLOTBOOK): crates.txt $(shell find crates -name '*.rt' -o -name '*.antt')
 
 build/example: include/example.c $(HEADERS) $(BOARD)
 	$(X86_CC) $(WARN) $(OPT) $(X86_LINK) -o $@ include/example.c $(BOARD)
+
+build/air_audio: tests/air_audio.c
+	cc $(WARN) $(OPT) -o $@ $< -lm
 
 build/test_packet build/test_packet_sanitized: $(PACKET)
 build/test_message build/test_message_sanitized: $(MESSAGE)
