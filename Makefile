@@ -51,7 +51,7 @@ JOURNAL := $(sort $(RUN_LOG) $(LOG_TEXT) $(LOG_MAKING) $(addprefix second/,log_c
 HEADERS := $(wildcard include/*.h second/*.h bench/*.h)
 TESTS := build/test_packet build/test_message build/test_book build/test_choosing build/test_journal
 LOG_PROGRAMS := build/second_slotbook build/logtext build/makelog
-PROGRAMS := build/example $(TESTS) $(addsuffix _sanitized,$(TESTS)) $(LOG_PROGRAMS) build/compare_packet build/compare_message
+PROGRAMS := build/example build/page $(TESTS) $(addsuffix _sanitized,$(TESTS)) $(LOG_PROGRAMS) build/compare_packet build/compare_message
 BENCHES := build/bench_packet build/bench_message build/bench_choosing build/makeday build/bench_slotbook $(SLOTBOOK)
 
 # make compare
@@ -96,6 +96,13 @@ $(SLOTBOOK): crates.txt $(shell find crates -name '*.rt' -o -name '*.antt')
 
 build/example: include/example.c $(HEADERS) $(BOARD)
 	$(X86_CC) $(WARN) $(OPT) $(X86_LINK) -o $@ include/example.c $(BOARD)
+
+# the program on the board's page
+build/page.c: docs/BOARD.md
+	sed -n '/^```c$$/,/^```$$/{//!p;}' $< >$@
+
+build/page: build/page.c $(HEADERS) $(BOARD)
+	$(X86_CC) $(WARN) $(OPT) -Iinclude $(X86_LINK) -o $@ $< $(BOARD)
 
 build/air_audio: tests/air_audio.c
 	cc $(WARN) $(OPT) -o $@ $< -lm
