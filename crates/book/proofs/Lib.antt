@@ -1,6 +1,7 @@
 pub mod Wide
 pub mod Steps
 pub mod Soundness
+pub mod Lengths
 pub mod Once
 pub mod Sizes
 pub mod Plans

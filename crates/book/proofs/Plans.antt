@@ -1,6 +1,6 @@
 -- The answers of a new plan, by what was found out about it.
 -- Assumes nothing.
-use mathlib.Core.Path.{_≡_, _∙_}
+use mathlib.Core.Path.{_≡_, ap₂, _∙_}
 use mathlib.Core.Bool.{Bool, true, false}
 use mathlib.Core.Logic.{_↔_}
 use mathlib.Core.List.{List}
@@ -21,22 +21,23 @@ use Rattle.book.specs.Sizes.{sized}
 use Rattle.book.specs.Planning.{planFits, planTests, replanned, planAnswer, Plans}
 use Rattle.book.proofs.Once.{slots-are, tallies-are, counts-are}
 
+-- a plan that the test of its numbers lets through is in its range
+pub in-range : (p : Plan) → planFits (p .rate) (p .start) ≡ true → InRange p
+unfolding planFits
+in-range p e =
+    let r = between-is 1 30 (p .rate) (both-left (between 1 30 (p .rate)) (leb (p .start) 2249) e) in
+    let h = leb-true (p .start) 2249 (both-right (between 1 30 (p .rate)) (leb (p .start) 2249) e) in
+    record { some = omega (arith, r .0); most = omega (arith, r .1); starts = omega (arith, h) }
+
 -- what the test of a changed plan says
 module _ (p : Plan) (rate start : ℕ) (e : p .rate ≡ rate) (f : p .start ≡ start) where
-  in-range : planFits rate start ≡ true → InRange p
-  unfolding planFits
-  in-range g =
-      let r = between-is 1 30 rate (both-left (between 1 30 rate) (leb start 2249) g) in
-      let h = leb-true start 2249 (both-right (between 1 30 rate) (leb start 2249) g) in
-      record { some = omega (arith, r .0); most = omega (arith, r .1); starts = omega (arith, h) }
-
   fits : InRange p → planFits rate start ≡ true
   unfolding planFits
   fits g = simp (between-yes 1 30 rate (omega (arith, g .some)) (omega (arith, g .most)), le-leb start 2249 (omega (arith, g .starts)))
 
   pub fits-is : (r : Bool) → T r ↔ InRange p → planFits rate start ≡ r
   fits-is true g = fits (g .0 tt)
-  fits-is false g = not-true (planFits rate start) (λ h. g .1 (in-range h))
+  fits-is false g = not-true (planFits rate start) (λ h. g .1 (in-range p (ap₂ planFits e f ∙ h)))
 
 module _ (s t : List ℕ) (c : Counts) (rate start : ℕ) where
   pub plan-20 : sized s t ≡ false → Refused OtherLength ≡ planAnswer s t c rate start

@@ -2,7 +2,6 @@
 -- 20,250 together.
 -- Assumes nothing.
 use mathlib.Core.Path.{_≡_, refl, sym, ap, _∙_}
-use mathlib.Core.Bool.{Bool, true, false}
 use mathlib.Core.List.{List, [], _∷_, _++_}
 use Prim.Native.Nat.{ℕ, zero, suc, _+_, _*_, _%_, _<_}
 use native.Mathlib.Nat.{suc-ne-zero}
@@ -11,8 +10,8 @@ use native.Mathlib.Omega.{arith}
 use lib.Dec.{eqb}
 use lib.ListN.{length, getD, set, replicate, length-set, length-append, length-replicate, getD-replicate}
 use lib.Seq.{getD-set-same, getD-set-other}
-use Rattle.laws.specs.Tests.{pick}
 use Rattle.laws.specs.Counting.{count, sum}
+use Rattle.laws.proofs.Tests.{pick-has}
 use Rattle.laws.proofs.Upto.{upto-keeps}
 use Rattle.laws.proofs.Counting.{hit-same, hit-other, count-set, count-le, count-at, count-replicate, sum-sums, sums-count, sum-end}
 use Rattle.laws.proofs.Sums.{sums}
@@ -73,18 +72,13 @@ sound-put b at h p new s =
       right = λ k q. put-right (b .tallies) (b .slots) at h (s .size) (s .kinds) below (s .held at below) new k (s .right k q);
     }
 
--- a test between two sound books
-sound-pick : (t : Bool) (x y : Book) → Sound x → Sound y → Sound (pick t x y)
-sound-pick true x y p q = p
-sound-pick false x y p q = q
-
 pub sound-mark : MarkKeeps
 unfolding markAt
-sound-mark b at h p new s = sound-pick (kept (holder b at)) b (putAt b at h) s (sound-put b at h p new s)
+sound-mark b at h p new s = pick-has Sound (kept (holder b at)) b (putAt b at h) s (sound-put b at h p new s)
 
 pub sound-free : FreeKeeps
 unfolding freeAt
-sound-free b at h p s = sound-pick (eqb (holder b at) h) (putAt b at 0) b (sound-put b at 0 p (omega arith) s) s
+sound-free b at h p s = pick-has Sound (eqb (holder b at) h) (putAt b at 0) b (sound-put b at 0 p (omega arith) s) s
 
 pub sound-release : ReleaseKeeps
 sound-release b h k p s = upto-keeps _ b Sound k (λ c i l. sound-free c i h (omega arith)) s

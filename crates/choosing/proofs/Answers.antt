@@ -9,7 +9,7 @@ use borrow.Author.Tests.{lt-ltb, le-ltb}
 use lib.Dec.{T, ltb}
 use lib.ListN.{length}
 use Rattle.laws.specs.Tests.{both}
-use Rattle.laws.proofs.Tests.{was-false, was-true, of-true, both-no, between-yes, between-low, between-high}
+use Rattle.laws.proofs.Tests.{was-false, was-true, both-no, between-yes, between-low, between-high}
 use Rattle.numbers.specs.declared.Refusal.the-variants.{OtherLength, OutOfRange, NoPlan, WindowTaken, NoCandidate as None, DrawBack, BeyondBook}
 use Rattle.plan.specs.declared.Plan.{Plan}
 use Rattle.plan.specs.Plan.{InRange}
@@ -79,9 +79,6 @@ module _ (p : Plan) (r : Bool) (g : T r ↔ InRange p) where
 
   pub right-plan : not r ≡ false → planFits (p .rate) (p .start) ≡ true
   right-plan e = fits-is p (p .rate) (p .start) refl refl r g ∙ was-true e
-
-  pub in-range : not r ≡ false → InRange p
-  in-range e = g .0 (of-true {b = r} (was-true e))
 
 -- ---- the slot that is taken
 

@@ -28,7 +28,6 @@ use Rattle.choosing.specs.Own.{worldOf}
 use Rattle.choosing.specs.Choosing.{
   chosenNumber,
   Lists,
-  sized,
   askFits,
   pickedIn,
   chooseTests,

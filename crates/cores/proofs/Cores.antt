@@ -35,7 +35,9 @@ use Rattle.cores.specs.declared.Answer.the-variants.{Passed, Sum}
 use Rattle.cores.specs.declared.Gone.{Gone}
 use Rattle.cores.specs.declared.Reply.{Reply}
 use Rattle.cores.specs.declared.Out.{Out}
-use Rattle.cores.specs.Core.{nothing, outWith, refusedOut, standingOf, watchWith, begunOut, hearOut, planOut, chooseOut, reportOut, Core, leaving, otherwise, newOut, newBook, First, firstOf, passedOut, hearCore, planCore, chooseCore, reportCore, sumOut, coreBy, agedOrder, agedOut, coreAfter, coreOf}
+use Rattle.cores.specs.Core.{nothing, outWith, refusedOut, standingOf, watchWith, begunOut, hearOut, planOut, chooseOut, reportOut, Core}
+use Rattle.cores.specs.Core.{leaving, otherwise, newOut, newBook, First, firstOf, passedOut, hearCore, planCore, chooseCore, reportCore, sumOut}
+use Rattle.cores.specs.Core.{coreBy, agedOrder, agedOut, coreAfter, coreOf}
 
 -- ---- outs
 
@@ -118,7 +120,8 @@ module _ (w : Watch) (k n : ℕ) (us bs : List ℕ) where
       let m = passes (momentOf bs us (standingOf w)) k in
       let ends : momentOf bs′ us′ t ≡ m = moves ∙ ap (λ (y : Standing). passes (momentOf bs us y) k) stands in
       let book : bookOf bs′ us′ (t .counts) ≡ m .book = ap (λ (y : Moment). y .book) ends in
-      let now : t ≡ record { counts = countsOf (m .book); present = m .present } = λ i. record { counts = counts-are bs′ us′ (t .counts) _ size′ book i; present = ends i .present } in
+      let now : t ≡ record { counts = countsOf (m .book); present = m .present } = λ i.
+      record { counts = counts-are bs′ us′ (t .counts) _ size′ book i; present = ends i .present } in
       let gone : Watch → Gone = λ y. record { watch = y; passes = k } in
       rw (eq-eqb n records is, eq-eqb (length bs) slotTimes size)
       (ap gone (e ∙ ap (watchWith w) now), tallies-are bs′ us′ (t .counts) _ size′ book, slots-are bs′ us′ (t .counts) _ size′ book)
@@ -247,4 +250,10 @@ unfolding coreOf agedOut
 joined x n us vs bs us₁ bs₁ g o {o′ = o′} {us′ = us′} {vs′ = vs′} {bs′ = bs′} h l e =
     let f : record { gone = g; tallies = us₁; slots = bs₁ } ≡ firstOf (x .watch) (x .passes) n us bs = λ i. record { gone = h .0 i; tallies = h .1 i; slots = h .2 i } in
     subst (λ (y : First). Leaves (coreAfter x n vs y) (o′ .order) (o′ .answer) us′ vs′ bs′) f
-    (record { orders = ap (λ (y : Out). y .order) e ∙ ap (agedOrder (g .passes)) (l .orders); says = ap (λ (y : Out). y .answer) e ∙ l .says; lefts = l .lefts; rights = l .rights; writes = l .writes })
+    (record {
+      orders = ap (λ (y : Out). y .order) e ∙ ap (agedOrder (g .passes)) (l .orders);
+      says = ap (λ (y : Out). y .answer) e ∙ l .says;
+      lefts = l .lefts;
+      rights = l .rights;
+      writes = l .writes;
+    })

@@ -19,8 +19,8 @@ use Rattle.hearing.specs.declared.Told.the-variants.{Station, Refused as
 use Rattle.hearing.specs.declared.Hearing.{Hearing}
 use Rattle.hearing.specs.declared.Heard.{Heard}
 use Rattle.hearing.specs.declared.Heard.the-variants.{Done, Refused}
-use Rattle.hearing.specs.Acts.{Act, marked, inBook, heldOf}
-use Rattle.hearing.specs.Announce.{announces}
+use Rattle.announcing.specs.Acts.{Act, marked, inBook, heldOf}
+use Rattle.announcing.specs.Announce.{announces}
 use Rattle.hearing.specs.Station.{fairOther}
 use Rattle.hearing.specs.Hear.{Lists, listsOf, sized, recordIn, bookTests, hearTests, bookAfter, hearingOf, hearLeft, Hears, Enters}
 

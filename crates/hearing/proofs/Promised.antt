@@ -1,7 +1,7 @@
 -- The call that hears: one answer, each number exactly when, the record is the lowest, and demand 3 stays.
 -- Assumes nothing.
 use mathlib.Core.Path.{_≡_, refl, sym, ap, subst, _∙_}
-use mathlib.Core.Bool.{Bool, true, false, true≢false}
+use mathlib.Core.Bool.{true, true≢false}
 use mathlib.Core.Logic.{_⊎_, inl, inr}
 use mathlib.Core.List.{List, _∷_}
 use Prim.Native.Nat.{ℕ, _+_, _<_}
@@ -10,7 +10,7 @@ use native.Mathlib.Omega.{arith}
 use borrow.Author.Tests.{ltb-true}
 use lib.Dec.{eqb}
 use lib.ListN.{length, getD}
-use Rattle.laws.specs.Tests.{pick}
+use Rattle.laws.proofs.Tests.{never, pick-is}
 use Rattle.laws.proofs.Ladder.{AllHold, exactly, passed, all-through}
 use Rattle.laws.proofs.Unique.{unique}
 use Rattle.numbers.specs.declared.Refusal.the-variants.{MessageLength, UnknownId}
@@ -28,11 +28,11 @@ use Rattle.hearing.specs.declared.Told.the-variants.{Station, Refused as
 use Rattle.hearing.specs.declared.Hearing.{Hearing}
 use Rattle.hearing.specs.declared.Heard.the-variants.{Done, Refused}
 use Rattle.hearing.specs.Station.{indexOf, recordOf}
-use Rattle.hearing.specs.Announce.{announces}
+use Rattle.announcing.specs.Announce.{announces}
 use Rattle.hearing.specs.Hear.{heardNumber, tellingOf, toldOf, Lists, recordIn, hearTests, bookAfter, hearingOf, hearAnswer, hearLeft, Hears}
 use Rattle.hearing.specs.Promises.{HearOnce, BytesExactly, HearExactly, First, RecordIsLowest, HearKeeps}
 use Rattle.hearing.proofs.Stations.{record-known, record-idle, before-none, first-is}
-use Rattle.hearing.proofs.Keeping.{sound-acted}
+use Rattle.announcing.proofs.Keeping.{sound-acted}
 
 -- no second answer
 pub hear-once : HearOnce
@@ -54,17 +54,12 @@ hear-exactly l s own x =
       given-0 = passed heardNumber 0 ts d tt refl;
     }
 
--- a test between two messages with known ids
-known-pick : (t : Bool) (m n : Message) → known m ≡ true → known n ≡ true → known (pick t m n) ≡ true
-known-pick true m n p q = p
-known-pick false m n p q = q
-
 -- what was read has a known id
 read-known : (bytes : List ℕ) → known (messageOf bytes) ≡ true
 unfolding messageOf organisedMessage
 read-known bytes =
     let id = idIn bytes in
-    known-pick (eqb id 3) _ _ refl (known-pick (eqb id 4) _ _ refl (known-pick (eqb id 2) _ _ refl refl))
+    pick-is known (eqb id 3) refl (pick-is known (eqb id 4) refl (pick-is known (eqb id 2) refl refl))
 
 module _ (l : Lists) (s : Standing) (own : ℕ) where
   -- no answer to a station has the number of a wrong length: as if a test for it came first, and held
@@ -86,7 +81,7 @@ module _ (l : Lists) (s : Standing) (own : ℕ) where
   message-never n h (Two r t) k e = h _ e
   message-never n h (Three r t) k e = h _ e
   message-never n h (Four b t) k e = h _ e
-  message-never n h Other k e = true≢false (sym k)
+  message-never n h Other k e = never k
 
 pub bytes-exactly : (bytes : List ℕ) (l : Lists) (s : Standing) (own : ℕ) → BytesExactly bytes l s own
 unfolding readAnswer readTests

@@ -1,8 +1,8 @@
 -- The station of a message: what is told of it, its source, and its record: where a number stands first in a list, as a loop seeks it, and
 -- that it is the lowest place.
 -- Assumes nothing.
-use mathlib.Core.Path.{_≡_, refl, sym, _∙_}
-use mathlib.Core.Bool.{Bool, true, false}
+use mathlib.Core.Path.{_≡_, sym, _∙_}
+use mathlib.Core.Bool.{Bool, false}
 use mathlib.Core.List.{List, [], _∷_}
 use Prim.Native.Nat.{ℕ, zero, suc, _+_, _≤_, _<_}
 use native.Mathlib.Decide.{ℕ-discrete}
@@ -15,8 +15,7 @@ use mir.Facts.{toZ-ofZ}
 use lib.IntN.{ℤ}
 use lib.Signed.{mag}
 use lib.ListN.{length, getD, drop}
-use Rattle.laws.specs.Tests.{both}
-use Rattle.laws.proofs.Tests.{both-no}
+use Rattle.laws.proofs.Tests.{both-no, both-yes}
 use Rattle.laws.proofs.Lists.{next}
 use Rattle.laws.proofs.Loops.{Fold, fold-more, fold-end}
 use Rattle.message.specs.declared.state.State.{State}
@@ -52,11 +51,7 @@ fair-own s own e = sym (simp (eq-eqb s own e, both-no))
 -- any other is one where it can be a source at all
 pub fair-other : (s own : ℕ) (r : Bool) → (s ≡ own → ⊥) → r ≡ fairSource s → r ≡ fairOther s own
 unfolding fairOther
-fair-other s own r n e = e ∙ sym (simp (ne-eqb s own n) (go (fairSource s)))
-  where
-    go : (b : Bool) → both b true ≡ b
-    go true = refl
-    go false = refl
+fair-other s own r n e = e ∙ sym (simp (ne-eqb s own n) (both-yes (fairSource s)))
 
 -- ---- where a number stands first
 

@@ -26,8 +26,8 @@ use Rattle.hearing.specs.declared.Told.the-variants.{Station, Refused as
 use Rattle.hearing.specs.declared.Hearing.{Hearing}
 use Rattle.hearing.specs.declared.Heard.{Heard}
 use Rattle.hearing.specs.declared.Heard.the-variants.{Done, Refused}
-use Rattle.hearing.specs.Acts.{Act, acted, marked, inBook, heldOf}
-use Rattle.hearing.specs.Announce.{announces}
+use Rattle.announcing.specs.Acts.{Act, acted, marked, inBook, heldOf}
+use Rattle.announcing.specs.Announce.{announces}
 use Rattle.hearing.specs.Station.{fairOther, recordOf}
 
 -- ---- the numbers given back, 0 for none

@@ -18,8 +18,8 @@ use Rattle.hearing.specs.declared.Told.the-variants.{Station}
 use Rattle.hearing.specs.declared.Hearing.{Hearing}
 use Rattle.hearing.specs.declared.Heard.{Heard}
 use Rattle.hearing.specs.declared.Heard.the-variants.{Done}
-use Rattle.hearing.specs.Acts.{marked, inBook}
-use Rattle.hearing.specs.Announce.{announces}
+use Rattle.announcing.specs.Acts.{marked, inBook}
+use Rattle.announcing.specs.Announce.{announces}
 use Rattle.hearing.specs.Station.{fairOther, recordOf}
 use Rattle.hearing.specs.Hear.{heardNumber, toldOf, Lists, sized, recordIn, hearAnswer, Hears}
 

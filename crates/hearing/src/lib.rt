@@ -1,8 +1,6 @@
 // Hearing: what a message from another station does to the slot book and to the list of sources. Promises: `hear` gives the answer and the
 // contents that specs/Hear.antt defines, for every message and every book; a refusal changes nothing. specs/Promises.antt has "given exactly
 // when" for each number, that no second answer meets the contract, and that demand 3 stays true.
-pub mod announcement;
-pub mod marks;
 pub mod station;
 
 ghost use mathlib.Core.Path.{_≡_};
@@ -10,19 +8,19 @@ ghost use Prim.Native.Nat.{_-_, _≤_, _<_};
 ghost use lib.ListN.{length};
 ghost use Rattle.book.specs.Book.{slotTimes, records};
 ghost use Rattle.laws.specs.Tests.{ladder};
-ghost use Rattle.hearing.specs.Announce.{actsOf};
+ghost use Rattle.announcing.specs.Announce.{actsOf};
 ghost use Rattle.hearing.specs.declared.Told.the-variants.{Station};
 ghost use Rattle.hearing.specs.declared.Heard.the-variants.{Done};
 ghost use Rattle.hearing.specs.Hear.{tellingOf, toldOf, listsOf, bookTests, hearingOf, hearLeft, Enters, Hears};
-use announcement::Announcement;
-use announcement::announced;
-use announcement::within;
+use announcing::announcement::Announcement;
+use announcing::announcement::announced;
+use announcing::announcement::within;
+use announcing::marks::book_times;
+use announcing::marks::held_times;
 use book::Counts;
 use book::RECORDS;
 use book::SLOT_TIMES;
 use book::Standing;
-use marks::book_times;
-use marks::held_times;
 use message::Message;
 use message::Received;
 use message::state::State;

@@ -2,11 +2,10 @@
 -- hold and it does not; the number of none of them, exactly when all hold. That no two of them share a number is computed.
 -- Assumes nothing.
 use mathlib.Core.Path.{_≡_, refl, sym, _∙_}
-use mathlib.Core.Bool.{Bool, true, false, not}
+use mathlib.Core.Bool.{Bool, true, false, not, true≢false}
 use mathlib.Core.Logic.{_↔_}
 use mathlib.Core.List.{List, [], _∷_}
 use Prim.Native.Nat.{ℕ, zero, suc}
-use native.Mathlib.Omega.{arith}
 use borrow.Author.Tests.{eq-eqb, eqb-true}
 use lib.Dec.{T, eqb}
 use Rattle.laws.specs.Tests.{both, ladder}
@@ -37,10 +36,7 @@ module _ {X : Type 0} (f : X → ℕ) (n : ℕ) where
   onlyGives (suc i) (t ∷ ts) = both (not (eqb (f (t .1)) n)) (onlyGives i ts)
 
   differs : (y : X) → not (eqb (f y) n) ≡ true → f y ≡ n → ⊥
-  differs y e z =
-      let c : true ≡ false = sym (eq-eqb (f y) n z) ∙ was-false e in
-      let zero-one : _≡_ {A = ℕ} 0 1 = cc in
-      omega arith
+  differs y e z = true≢false (sym (eq-eqb (f y) n z) ∙ was-false e)
 
   never : (ts : List (Bool × X)) (x : X) → noneGives ts ≡ true → (f x ≡ n → ⊥) → f (ladder ts x) ≡ n → ⊥
   never [] x o h e = h e

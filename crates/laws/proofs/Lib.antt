@@ -10,3 +10,4 @@ pub mod Counting
 pub mod Sums
 pub mod Those
 pub mod Ranges
+pub mod Signs

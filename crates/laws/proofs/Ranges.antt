@@ -9,6 +9,7 @@ use native.Mathlib.Omega.{arith}
 use Rattle.laws.specs.Tests.{both, either}
 use Rattle.laws.specs.Counting.{one}
 use Rattle.laws.specs.Ranges.{howMany, some, every, least}
+use Rattle.laws.proofs.Tests.{never, by-test}
 use Rattle.laws.proofs.Sums.{one-le}
 
 -- ---- how many pass
@@ -54,6 +55,14 @@ module _ (p : ℕ → Bool) where
       go : Dec (i ≡ n) → (i < n → true ≡ some p n) → true ≡ either (some p n) (p n)
       go (yes q) h = last (some p n) ∙ ap (either (some p n)) (sym e ∙ ap p q)
       go (no q) h = ap (λ (b : Bool). either b (p n)) (h (omega arith))
+
+  -- where some pass, here is one
+  pub some-passes : (n : ℕ) → some p n ≡ true → (i : ℕ) × ((i < n) × (p i ≡ true))
+  unfolding some
+  some-passes zero e = never e
+  some-passes (suc n) e =
+      by-test (some p n) (λ z. let r = some-passes n z in (r .0, (omega (arith, r .1 .0), r .1 .1)))
+      (λ z. (n, (omega arith, ap (λ (b : Bool). either b (p n)) (sym z) ∙ e)))
 
 -- ---- the smallest value
 

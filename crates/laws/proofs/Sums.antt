@@ -141,3 +141,7 @@ pub one-le : (b : Bool) → one b ≤ 1
 unfolding one
 one-le true = omega arith
 one-le false = omega arith
+
+-- so is what is known to be a test's count
+pub bit-le : (b : Bool) (n : ℕ) → n ≡ one b → n ≤ 1
+bit-le b n e = omega (arith, e, one-le b)

@@ -9,7 +9,7 @@ use borrow.Author.Tests.{ne-eqb, ltb-true}
 use lib.Dec.{eqb, leb, ltb}
 use lib.ListN.{getD}
 use Rattle.laws.specs.Tests.{pick}
-use Rattle.laws.proofs.Tests.{both-left, both-right}
+use Rattle.laws.proofs.Tests.{both-left, both-right, pick-of, pick-has}
 use Rattle.message.specs.declared.state.SubMessage.{SubMessage}
 use Rattle.message.specs.declared.state.SubMessage.the-variants.{Offset, Time, Slot, Stations}
 use Rattle.message.specs.declared.state.State.{State}
@@ -18,12 +18,11 @@ use Rattle.message.specs.State.{timeOutOf, slotsOf, distanceOf}
 use Rattle.book.specs.Book.{Book, slotTimes, records, place, holder, markAt, freeAt}
 use Rattle.book.specs.Sound.{Sound}
 use Rattle.book.proofs.Soundness.{sound-mark, sound-free}
-use Rattle.hearing.specs.Acts.{Act, act, acted, marked, marksFrom, inBook}
-use Rattle.hearing.specs.Acts.Act.{mark, free}
-use Rattle.hearing.specs.Announce.{frames, offset, keeps, announces}
+use Rattle.announcing.specs.Acts.{Act, act, acted, marked, marksFrom, inBook}
+use Rattle.announcing.specs.Acts.Act.{mark, free}
+use Rattle.announcing.specs.Announce.{frames, offset, keeps, announces}
 use Rattle.promises.specs.History.{Who, markedBy, freedBy, actedOn, whoOf}
 use Rattle.promises.specs.History.Who.{nobody}
-use Rattle.promises.proofs.Picked.{pick-of, pick-has}
 use Rattle.promises.proofs.Places.{held-by-one, mark-after, free-after}
 use Rattle.promises.proofs.Known.{Apart, who-marked, who-freed}
 

@@ -14,6 +14,8 @@ use Rattle.laws.proofs.Ladder.{AllHold, passed, all-through}
 use Rattle.book.specs.declared.Standing.{Standing}
 use Rattle.book.specs.Book.{Book, ours, holders, place, bookOf, talliesOf, putAt}
 use Rattle.book.proofs.Once.{parts-make}
+use Rattle.book.proofs.Plans.{in-range}
+use Rattle.book.proofs.Lengths.{all-records}
 use Rattle.choice.specs.Window.{distanceIn}
 use Rattle.choice.specs.Promises.{Picks}
 use Rattle.choosing.specs.declared.Ask.{Ask}
@@ -41,9 +43,8 @@ use Rattle.cores.specs.declared.Answer.the-variants.{Refused}
 use Rattle.cores.specs.Core.{standingOf, chosenOut, leftChosen, agedOrder}
 use Rattle.promises.specs.Calls.{State, bookIn}
 use Rattle.promises.specs.Windows.{planIn}
-use Rattle.promises.proofs.Lengths.{all-holders, all-records, frames-sizes}
+use Rattle.promises.proofs.Lengths.{all-holders, frames-sizes}
 use Rattle.promises.proofs.Settled.{talliesIn, tallies-are, sources-stay}
-use Rattle.promises.proofs.Ranged.{in-range}
 use Rattle.promises.proofs.Staying.{leftBy, Moved, stays}
 use Rattle.promises.proofs.Moves.{Fine, windowIn, worldIn, ChosenBy}
 

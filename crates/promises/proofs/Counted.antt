@@ -10,8 +10,8 @@ use Rattle.book.specs.Pass.{Moment}
 use Rattle.book.specs.Sound.{Sound}
 use Rattle.book.specs.Promises.{newBook}
 use Rattle.book.proofs.Soundness.{sound-new, sound-pass, sound-release, all-make}
-use Rattle.hearing.specs.Announce.{announces}
-use Rattle.hearing.proofs.Keeping.{sound-acted}
+use Rattle.announcing.specs.Announce.{announces}
+use Rattle.announcing.proofs.Keeping.{sound-acted}
 use Rattle.choosing.proofs.Replacing.{sound-frames}
 use Rattle.register.specs.declared.Station.{Station}
 use Rattle.register.specs.Register.{blank}

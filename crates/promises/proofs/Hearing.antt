@@ -14,13 +14,14 @@ use Rattle.laws.proofs.Ladder.{AllHold, passed, all-through}
 use Rattle.ship.specs.Ship.{fairSource}
 use Rattle.book.specs.Book.{Book, records, holders, bookOf, talliesOf}
 use Rattle.book.proofs.Once.{tallies-back, parts-make}
+use Rattle.book.proofs.Lengths.{all-records}
 use Rattle.hearing.specs.declared.Telling.{Telling}
 use Rattle.hearing.specs.declared.Told.the-variants.{Station as Told}
 use Rattle.hearing.specs.declared.Hearing.{Hearing}
 use Rattle.hearing.specs.declared.Heard.{Heard}
 use Rattle.hearing.specs.declared.Heard.the-variants.{Done as IsHeard, Refused as NotHeard}
-use Rattle.hearing.specs.Acts.{acted}
-use Rattle.hearing.specs.Announce.{announces}
+use Rattle.announcing.specs.Acts.{acted}
+use Rattle.announcing.specs.Announce.{announces}
 use Rattle.hearing.specs.Station.{fairOther, recordOf}
 use Rattle.hearing.specs.Hear.{heardNumber, Lists, listsOf, recordIn as recordOfLists, hearTests, bookAfter, hearingOf, hearAnswer, hearLeft}
 use Rattle.register.specs.declared.Order.{Order}
@@ -28,7 +29,7 @@ use Rattle.register.specs.declared.What.the-variants.{Hear}
 use Rattle.cores.specs.declared.Answer.the-variants.{Refused}
 use Rattle.cores.specs.Core.{standingOf, heardOut, leftHeard, agedOrder}
 use Rattle.promises.specs.Calls.{State, bookIn, sourcesIn}
-use Rattle.promises.proofs.Lengths.{all-holders, all-records, acted-sizes}
+use Rattle.promises.proofs.Lengths.{all-holders, acted-sizes}
 use Rattle.promises.proofs.Settled.{talliesIn, tallies-are, sources-set}
 use Rattle.promises.proofs.Staying.{leftBy, Moved, stays}
 use Rattle.promises.proofs.Moves.{Fine, HeardBy, recordIn}

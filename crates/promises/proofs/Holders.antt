@@ -10,12 +10,13 @@ use lib.Dec.{eqb, ltb}
 use lib.ListN.{length, getD, replicate, set, length-map, getD-replicate, List·getD-map}
 use Rattle.laws.specs.Tests.{pick}
 use Rattle.laws.specs.Ranges.{some}
+use Rattle.laws.proofs.Tests.{pick-of}
 use Rattle.book.specs.Book.{slotTimes, records, ours, place, holder}
 use Rattle.book.specs.Pass.{Moment}
 use Rattle.book.specs.Sound.{Sound}
 use Rattle.hearing.specs.declared.Telling.{Telling}
-use Rattle.hearing.specs.Acts.{Act}
-use Rattle.hearing.specs.Announce.{announces}
+use Rattle.announcing.specs.Acts.{Act}
+use Rattle.announcing.specs.Announce.{announces}
 use Rattle.choosing.specs.declared.Ask.{Ask}
 use Rattle.register.specs.declared.Station.{Station}
 use Rattle.register.specs.Register.{blank}
@@ -29,7 +30,6 @@ use Rattle.promises.proofs.Stands.{Stands}
 use Rattle.promises.proofs.Lasting.{new-present}
 use Rattle.promises.proofs.Grown.{always}
 use Rattle.promises.proofs.Counted.{counted}
-use Rattle.promises.proofs.Picked.{pick-of}
 use Rattle.promises.proofs.Places.{at-a-place, held-by-one, passes-present, passes-after, released-after, own-after, own-beyond}
 use Rattle.promises.proofs.Known.{Apart, Meant, who-nobody, who-us, who-given-up, meant, mine-now, who-taken, still-apart}
 use Rattle.promises.proofs.Announced.{frees-near, acted-after, acted-beyond}

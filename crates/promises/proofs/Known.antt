@@ -14,12 +14,12 @@ use Rattle.laws.proofs.Counting.{hit-same, count-at}
 use Rattle.book.specs.Book.{Book, records, ours, holders, holder, talliesOf}
 use Rattle.book.specs.Sound.{Sound}
 use Rattle.book.proofs.Steps.{kept-own, kept-other}
+use Rattle.book.proofs.Lengths.{all-records}
 use Rattle.hearing.specs.Station.{recordOf}
 use Rattle.hearing.specs.Promises.{First}
 use Rattle.hearing.proofs.Promised.{record-lowest}
 use Rattle.promises.specs.History.{markedBy, freedBy, givenUp, whoOf}
 use Rattle.promises.specs.History.Who.{nobody, us, station}
-use Rattle.promises.proofs.Lengths.{all-records}
 use Rattle.promises.proofs.Places.{markedFor, freedOf}
 
 -- ---- a holder number

@@ -7,9 +7,10 @@ use lib.ListN.{length, length-map, length-set, length-replicate}
 use Rattle.laws.proofs.Upto.{upto-keeps}
 use Rattle.book.specs.Book.{Book, slotTimes, records, ours}
 use Rattle.book.specs.Pass.{Moment, passed, passes}
-use Rattle.hearing.specs.Announce.{announces}
+use Rattle.book.proofs.Lengths.{SameSizes, released-sizes, passes-sizes}
+use Rattle.announcing.specs.Announce.{announces}
 use Rattle.promises.specs.Calls.{State, newState, bookIn, sourcesIn}
-use Rattle.promises.proofs.Lengths.{SameSizes, acted-sizes, released-sizes, frames-sizes, passes-sizes}
+use Rattle.promises.proofs.Lengths.{acted-sizes, frames-sizes}
 use Rattle.promises.proofs.Moves.{Fine, momentIn, recordIn, worldIn}
 use Rattle.promises.proofs.Stands.{Stands}
 

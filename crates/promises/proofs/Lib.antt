@@ -15,10 +15,8 @@ pub mod Moves
 pub mod Moving
 pub mod Ours
 pub mod Passing
-pub mod Picked
 pub mod Places
 pub mod Planning
-pub mod Ranged
 pub mod Settled
 pub mod Stands
 pub mod Staying

@@ -12,8 +12,8 @@ use Rattle.book.specs.Pass.{Moment, passes}
 use Rattle.hearing.specs.declared.Telling.{Telling}
 use Rattle.hearing.specs.declared.Told.{Told}
 use Rattle.hearing.specs.declared.Told.the-variants.{Station as Told·Station, Refused as NotTold}
-use Rattle.hearing.specs.Acts.{acted, marked, inBook}
-use Rattle.hearing.specs.Announce.{announces}
+use Rattle.announcing.specs.Acts.{acted, marked, inBook}
+use Rattle.announcing.specs.Announce.{announces}
 use Rattle.hearing.specs.Station.{recordOf}
 use Rattle.choice.specs.declared.Window.{Window}
 use Rattle.choosing.specs.declared.Ask.{Ask}

@@ -4,22 +4,22 @@ use mathlib.Core.Path.{_≡_, refl, sym, _∙_}
 use mathlib.Core.Bool.{Bool, true, false, true≢false}
 use mathlib.Core.List.{List, [], _∷_}
 use mathlib.Core.Logic.{_⊎_, inl, inr}
-use Prim.Native.Nat.{ℕ, zero, suc, _+_, _-_, _*_, _<_}
+use Prim.Native.Nat.{ℕ, _+_, _-_, _*_}
 use native.Mathlib.Omega.{arith}
 use borrow.Author.Tests.{eq-eqb, eqb-true}
 use lib.Dec.{eqb}
 use lib.ListN.{getD}
-use Rattle.laws.specs.Tests.{pick, either}
+use Rattle.laws.specs.Tests.{pick}
 use Rattle.laws.specs.Ranges.{some}
-use Rattle.laws.proofs.Ranges.{some-hit}
+use Rattle.laws.proofs.Tests.{never, pick-is}
+use Rattle.laws.proofs.Ranges.{some-hit, some-passes}
 use Rattle.book.specs.Book.{ours}
 use Rattle.choice.specs.Slot.{isOwn}
-use Rattle.hearing.specs.Acts.{Act}
-use Rattle.hearing.specs.Acts.Act.{mark, free}
+use Rattle.announcing.specs.Acts.{Act}
+use Rattle.announcing.specs.Acts.Act.{mark, free}
 use Rattle.promises.specs.History.{Event, Who, markedBy, freedBy, givenUp, actedOn, afterEvent, holderOf, timeOf, whoOf}
 use Rattle.promises.specs.History.Event.{heard, owned, planned}
 use Rattle.promises.specs.History.Who.{nobody, us, station}
-use Rattle.promises.proofs.Picked.{pick-has}
 use Rattle.promises.proofs.Keeping.{Repeats}
 
 abbrev pub isUs : Who → Bool
@@ -34,7 +34,7 @@ Own es t = isUs (holderOf es t) ≡ true
 -- ---- a station was heard: what is ours stays so, and nothing becomes ours
 
 us-picked : (b : Bool) (x y : Who) → isUs x ≡ isUs y → isUs (pick b x y) ≡ isUs y
-us-picked b x y e = pick-has (λ (w : Who). isUs w ≡ isUs y) b x y e refl
+us-picked b x y e = pick-is isUs b e refl
 
 us-marked : (s : ℕ) (y : Who) → isUs (markedBy s y) ≡ isUs y
 unfolding markedBy
@@ -74,16 +74,6 @@ none-planned es t o = true≢false (sym o ∙ us-given-up (holderOf es t))
 
 -- ---- a slot became ours, and in m frames after it
 
--- some number that passes
-some-passes : (p : ℕ → Bool) (n : ℕ) → some p n ≡ true → (i : ℕ) × ((i < n) × (p i ≡ true))
-unfolding some
-some-passes p zero e = absurd (true≢false (sym e))
-some-passes p (suc n) e = go (some p n) e (some-passes p n)
-  where
-    go : (a : Bool) → either a (p n) ≡ true → (a ≡ true → (i : ℕ) × ((i < n) × (p i ≡ true))) → (i : ℕ) × ((i < suc n) × (p i ≡ true))
-    go true z before = let r = before refl in (r .0, (omega (arith, r .1 .0), r .1 .1))
-    go false z before = (n, (omega arith, z))
-
 module _ (d m : ℕ) (es : List Event) (t : ℕ) where
   abbrev hits : ℕ → Bool
   hits i = eqb t (timeOf es + (d + 2250 * i))
@@ -116,6 +106,6 @@ unfolding whoOf isOwn
 own-number sources x o = go (eqb x 0) (eqb x ours) o
   where
     go : (a b : Bool) → isUs (pick a nobody (pick b us (station (getD sources (x - 1) 0)))) ≡ true → b ≡ true
-    go true b e = absurd (true≢false (sym e))
+    go true b e = never e
     go false true e = refl
     go false false e = e

@@ -7,12 +7,13 @@ use lib.ListN.{length}
 use Rattle.book.specs.Book.{slotTimes, holders, bookOf, countsOf, talliesOf}
 use Rattle.book.specs.Pass.{Moment}
 use Rattle.book.proofs.Once.{parts-make}
+use Rattle.book.proofs.Lengths.{all-records, passes-sizes}
 use Rattle.register.specs.declared.What.the-variants.{Nothing}
 use Rattle.register.specs.Register.{settle}
 use Rattle.register.specs.Sheet.{settledBy}
 use Rattle.cores.specs.Core.{nothing, watchWith, passedOut, agedOrder}
 use Rattle.promises.specs.Calls.{State, afterCall}
-use Rattle.promises.proofs.Lengths.{all-holders, all-records, passes-sizes}
+use Rattle.promises.proofs.Lengths.{all-holders}
 use Rattle.promises.proofs.Settled.{tallies-are, sources-stay}
 use Rattle.promises.proofs.Ended.{stateIn, wordsIn, moment, ended}
 use Rattle.promises.proofs.Moves.{Fine, momentIn, PassedBy}

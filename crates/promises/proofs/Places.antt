@@ -12,6 +12,7 @@ use lib.Seq.{getD-set-same, getD-set-other}
 use Rattle.laws.specs.Tests.{pick, either}
 use Rattle.laws.specs.Loops.{upto}
 use Rattle.laws.specs.Ranges.{some}
+use Rattle.laws.proofs.Tests.{pick-of, pick-has}
 use Rattle.laws.proofs.Ranges.{some-none, some-miss}
 use Rattle.book.specs.Book.{Book, slotTimes, ours, holders, place, holder, kept, putAt, markAt, freeAt, released}
 use Rattle.book.specs.Pass.{Moment, passed, passes}
@@ -19,7 +20,6 @@ use Rattle.book.specs.Sound.{Sound}
 use Rattle.book.proofs.Soundness.{sound-release, sound-pass}
 use Rattle.choosing.specs.Own.{World, ownAt, ownFrames}
 use Rattle.choosing.proofs.Replacing.{sound-frames}
-use Rattle.promises.proofs.Picked.{pick-of, pick-has}
 
 -- ---- a place, by whether it is the one concerned
 

@@ -15,14 +15,15 @@ use Rattle.book.specs.Planning.{plannedNumber, planFits, planTests, replanned, 
 use Rattle.book.specs.Sizes.{sized}
 use Rattle.book.proofs.Once.{parts-make}
 use Rattle.book.proofs.Promised.{plan-exactly}
+use Rattle.book.proofs.Plans.{in-range}
+use Rattle.book.proofs.Lengths.{all-records, released-sizes}
 use Rattle.register.specs.declared.Rate.{Rate}
 use Rattle.register.specs.declared.What.the-variants.{Plan}
 use Rattle.cores.specs.declared.Answer.the-variants.{Refused}
 use Rattle.cores.specs.Core.{nothing, plannedOut, leftPlanned}
 use Rattle.promises.specs.Calls.{State, bookIn}
-use Rattle.promises.proofs.Lengths.{all-holders, all-records, released-sizes}
+use Rattle.promises.proofs.Lengths.{all-holders}
 use Rattle.promises.proofs.Settled.{talliesIn, tallies-are, sources-stay}
-use Rattle.promises.proofs.Ranged.{in-range}
 use Rattle.promises.proofs.Staying.{leftBy, Moved, stays}
 use Rattle.promises.proofs.Moves.{Fine, PlannedBy}
 

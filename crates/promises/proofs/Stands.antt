@@ -7,7 +7,7 @@ use Rattle.book.specs.Book.{slotTimes, records}
 use Rattle.hearing.specs.declared.Telling.{Telling}
 use Rattle.hearing.specs.declared.Told.{Told}
 use Rattle.hearing.specs.declared.Told.the-variants.{Station as Told·Station, Refused as NotTold}
-use Rattle.hearing.specs.Announce.{announces}
+use Rattle.announcing.specs.Announce.{announces}
 use Rattle.choosing.specs.declared.Ask.{Ask}
 use Rattle.register.specs.declared.What.{What}
 use Rattle.register.specs.declared.What.the-variants.{Nothing, Hear, Plan, Own, Choose, Report, New, Sum}

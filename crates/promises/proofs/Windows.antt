@@ -5,6 +5,7 @@ use mathlib.Core.Bool.{true≢false}
 use mathlib.Core.List.{List, [], _∷_}
 use Prim.Native.Nat.{ℕ, _+_, _-_, _%_, _<_}
 use native.Mathlib.Omega.{arith}
+use Rattle.laws.proofs.Tests.{never}
 use Rattle.laws.proofs.Ranges.{some-hit}
 use Rattle.plan.specs.declared.Plan.{Plan}
 use Rattle.plan.specs.Plan.{InRange, first, slots, onward}
@@ -12,7 +13,7 @@ use Rattle.plan.specs.Times.{Within, meant}
 use Rattle.plan.proofs.Gaps.{half-most}
 use Rattle.book.specs.Book.{slotTimes, records}
 use Rattle.choice.specs.Slot.{isOwn, holderAt}
-use Rattle.hearing.specs.Acts.{Act}
+use Rattle.announcing.specs.Acts.{Act}
 use Rattle.choosing.specs.declared.Ask.{Ask}
 use Rattle.choosing.specs.Choosing.{windowMeant, anyOwn}
 use Rattle.cores.specs.declared.Slot.{Slot}
@@ -36,7 +37,7 @@ record Kept (p : Plan) (es : List Event) : Type 0 where
 
 kept-new : (n m : ℕ) → Kept (planIn (newState n m)) []
 unfolding newState holderOf
-kept-new n m = record { ranged = λ l. absurd (omega arith); keeps = keeps-none _ _ _ (λ t o. true≢false (sym o)) }
+kept-new n m = record { ranged = λ l. absurd (omega arith); keeps = keeps-none _ _ _ (λ t o. never o) }
 
 module _ (p : Plan) (es : List Event) (k : Kept p es) where
   kept-passed : (n : ℕ) → Kept p (passed n ∷ es)

@@ -10,9 +10,9 @@ use Rattle.laws.specs.Ranges.{some}
 use Rattle.book.specs.Book.{slotTimes, ours, place}
 use Rattle.hearing.specs.declared.Told.{Told}
 use Rattle.hearing.specs.declared.Told.the-variants.{Station as Told·Station, Refused as NotTold}
-use Rattle.hearing.specs.Acts.{Act}
-use Rattle.hearing.specs.Acts.Act.{mark, free}
-use Rattle.hearing.specs.Announce.{announces}
+use Rattle.announcing.specs.Acts.{Act}
+use Rattle.announcing.specs.Acts.Act.{mark, free}
+use Rattle.announcing.specs.Announce.{announces}
 use Rattle.register.specs.declared.What.{What}
 use Rattle.register.specs.declared.What.the-variants.{Nothing, Hear, Plan, Own, Choose, Report, New, Sum}
 use Rattle.cores.specs.declared.Answer.{Answer}

@@ -11,6 +11,7 @@ use borrow.Author.Tests.{lt-ltb, le-ltb}
 use lib.Dec.{ltb}
 use lib.ListN.{length, getD, drop}
 use Rattle.laws.specs.Counting.{one}
+use Rattle.laws.proofs.Sums.{one-le}
 use Rattle.laws.proofs.Loops.{Fold, fold-more, fold-end}
 use Rattle.reporting.specs.Report.{ownAt, inARow, timeOut, firstOwn, heardStations}
 
@@ -136,16 +137,6 @@ module _ (slots : List ℕ) (present d n : ℕ) where
 
 -- ---- stations heard
 
--- a test counts at most 1
-one-most : (b : Bool) → one b ≤ 1
-unfolding one
-one-most true = omega arith
-one-most false = omega arith
-
--- so does what is known to be a test's count
-pub bit-most : (b : Bool) (n : ℕ) → n ≡ one b → n ≤ 1
-bit-most b n e = omega (arith, e, one-most b)
-
 -- a tally above 0 counts 1
 pub one-heard : (t : ℕ) → 0 < t → 1 ≡ one (ltb 0 t)
 unfolding one
@@ -159,7 +150,7 @@ none-heard t h = rw (le-ltb 0 t h)
 -- no more stations than records
 pub stations-most : (l : List ℕ) → heardStations l ≤ length l
 stations-most [] = omega arith
-stations-most (t ∷ l) = omega (arith, stations-most l, one-most (ltb 0 t))
+stations-most (t ∷ l) = omega (arith, stations-most l, one-le (ltb 0 t))
 
 -- n counted, l left
 unfoldable pub counting : ℕ → List ℕ → ℕ

@@ -7,8 +7,7 @@ use Prim.Native.Nat.{ℕ, zero, suc, _+_, _-_, _%_, _≤_, _<_}
 use native.Mathlib.Decide.{ℕ-discrete}
 use native.Mathlib.Omega.{arith}
 use borrow.Author.Tests.{lt-ltb, ltb-true}
-use Rattle.laws.specs.Tests.{pick}
-use Rattle.laws.proofs.Tests.{not-true}
+use Rattle.laws.proofs.Tests.{not-true, pick-has}
 use Rattle.plan.specs.declared.Plan.{Plan}
 use Rattle.plan.specs.declared.Lies.{Lies}
 use Rattle.plan.specs.declared.Lies.the-variants.{In, Outside}
@@ -149,16 +148,11 @@ module _ (slots : List ℕ) (present : ℕ) where
 
 -- ---- how large an offset can be
 
--- what is bounded either way
-pick-most : (b : Bool) (x y m : ℕ) → x ≤ m → y ≤ m → pick b x y ≤ m
-pick-most true x y m l k = l
-pick-most false x y m l k = k
-
 -- a time found lies in its stretch
 first-most : (slots : List ℕ) (present d n : ℕ) → firstOwn slots present d n ≤ d + n
 first-most slots present d zero = omega arith
 first-most slots present d (suc n) =
-    pick-most (ownAt slots present d) d (firstOwn slots present (suc d) n) (d + suc n) (omega arith)
+    pick-has (λ (x : ℕ). x ≤ d + suc n) (ownAt slots present d) d (firstOwn slots present (suc d) n) (omega arith)
     (omega (arith, first-most slots present (suc d) n))
 
 module _ (slots : List ℕ) (present : ℕ) (p : Plan) where
@@ -172,7 +166,7 @@ module _ (slots : List ℕ) (present : ℕ) (p : Plan) where
   below-most : (m : ℕ) → offsetBelow slots present p m ≤ 2701
   below-most zero = omega arith
   below-most (suc m) =
-      pick-most (liesIn p m (present % 2250)) (offsetIn slots present p m) (offsetBelow slots present p m) 2701 (in-most m) (below-most m)
+      pick-has (λ (x : ℕ). x ≤ 2701) (liesIn p m (present % 2250)) (offsetIn slots present p m) (offsetBelow slots present p m) (in-most m) (below-most m)
 
   -- so it fits 14 bits
   pub offset-most : offsetOf slots present p ≤ 2701

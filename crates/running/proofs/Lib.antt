@@ -4,6 +4,7 @@ pub mod Filling
 pub mod Flushing
 pub mod Keeping
 pub mod Local
+pub mod ProgramCode
 pub mod Stepping
 pub mod Turns
 pub mod Waiting

@@ -1,18 +1,18 @@
 -- Signed numbers against the bounds of a place, and what `known` and `stated` give by the tests on the way.
 -- Assumes nothing.
-use mathlib.Core.Path.{_≡_, refl, sym, ap, _∙_, subst}
+use mathlib.Core.Path.{_≡_, refl, sym, ap, _∙_}
 use mathlib.Core.Bool.{Bool, true, false}
 use Prim.Native.Nat.{ℕ, suc, _-_, _^_, _≤_, _<_}
 use native.Mathlib.Omega.{arith}
 use borrow.Author.Tests.{ltb-true, ltb-false, le-leb, lt-leb, ne-eqb}
-use lib.Dec.{T, leb, eqb}
+use lib.Dec.{leb, eqb}
 use lib.IntN.{ℤ, pos, negsuc, natAbs}
 use lib.Signed.{ltZ, leZ}
 use mir.Facts.{toZ-ofZ}
 use mir.Syntax.{w32}
 use mir.Val.{SFits, toZ, ofZ}
 use Rattle.laws.specs.Tests.{both, pick}
-use Rattle.laws.proofs.Tests.{both-no}
+use Rattle.laws.proofs.Tests.{never, both-no}
 use Rattle.message.specs.Message.{knownPlace}
 use Rattle.ship.specs.Ship.{unknownPlace, ownPlace}
 
@@ -26,13 +26,13 @@ read-back say {lat = lat} {lon = lon} f g = ap (λ (z : ℤ). say z (toZ w32 (of
 module _ (c : ℕ) where
   -- below the lower one it is too far from zero
   below : (z : ℤ) → ltZ z (negsuc c) ≡ true → suc c < natAbs z
-  below (pos n) e = absurd (subst T (sym e) tt)
+  below (pos n) e = never e
   below (negsuc n) e = omega (arith, ltb-true c n e)
 
   -- above the upper one too
   above : (z : ℤ) → ltZ (pos (suc c)) z ≡ true → suc c < natAbs z
   above (pos n) e = ltb-true (suc c) n e
-  above (negsuc n) e = absurd (subst T (sym e) tt)
+  above (negsuc n) e = never e
 
   -- between them it is not
   within : (z : ℤ) → ltZ z (negsuc c) ≡ false → ltZ (pos (suc c)) z ≡ false → natAbs z ≤ suc c

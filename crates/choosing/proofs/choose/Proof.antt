@@ -1,7 +1,8 @@
 use Rattle.book.proofs.Sizes.{other-book, other-tallies, other-two, other-third, all-right}
 use native.Mathlib.Omega.{arith}
 use Rattle.choosing.specs.Choosing.{listsOf}
-use Rattle.choosing.proofs.Answers.{no-plan, right-plan, in-range, no-window, too-short, too-long, can-be, chosen-20, chosen-31, chosen-30, chosen-on}
+use Rattle.book.proofs.Plans.{in-range}
+use Rattle.choosing.proofs.Answers.{no-plan, right-plan, no-window, too-short, too-long, can-be, chosen-20, chosen-31, chosen-30, chosen-on}
 use borrow.Author.Needs.{needs}
 use Rattle.choosing.proofs.choose.Statement.{statement}
 use Rattle.choosing.proofs.choose.Tie as tie
@@ -52,7 +53,11 @@ returns-7 c =
     chosen-30 l (a .s) (a .p) (a .a) (all-right _ _ _ (search needs) (search needs) (search needs)) (right-plan _ (c .before .before .before .before .before .before .before .before .good2 .result) (c .before .before .before .before .before .before .before .before .good2 .ensures) (c .before .before .before .before .before .before .before .if4 .left)) (too-long (a .p) (a .a) (c .if7 .taken))
 
 choose-in-requires : tie.Need-choose-in-requires
-choose-in-requires c κs = (search needs, search needs, search needs, in-range _ (c .before .before .before .before .before .before .before .before .before .before .before .good2 .result) (c .before .before .before .before .before .before .before .before .before .before .before .good2 .ensures) (c .before .before .before .before .before .before .before .before .before .before .if4 .left), c .before .before .before .before .before .before .before .if5 .left, omega arith)
+choose-in-requires c κs =
+    let g = c .before .before .before .before .before .before .before .before .before .before .before .good2 in
+    let n = c .before .before .before .before .before .before .before .before .before .before .if4 .left in
+    let ranged = in-range _ (right-plan _ (g .result) (g .ensures) n) in
+    (search needs, search needs, search needs, ranged, c .before .before .before .before .before .before .before .if5 .left, omega arith)
 
 same-length : tie.Need-same-length
 same-length c = search needs

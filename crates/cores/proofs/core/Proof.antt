@@ -18,7 +18,8 @@ same-length : tie.Need-same-length
 same-length c = search needs
 
 returns : tie.Need-returns
-returns c = joined _ _ _ _ _ _ _ _ _ (c .before .before .before .before .before .before .before .before .before .pass-first .ensures) (c .before .before .before .done .ensures) (c .aged .ensures)
+returns c = joined _ _ _ _ _ _ _ _ _ (c .before .before .before .before .before .before .before .before .before .pass-first .ensures)
+    (c .before .before .before .done .ensures) (c .aged .ensures)
 
 pub core-spec : {M : Type 1} → statement M
 core-spec = tie.close (tie.spec pass-first-requires done-requires aged-requires same-length returns)

@@ -93,7 +93,8 @@ same-length-6 : tie.Need-same-length-6
 same-length-6 c = search needs
 
 returns-7 : tie.Need-returns-7
-returns-7 c = asked _ _ _ _ _ _ _ (c .before .before .before .before .enum-told2 .given .1) (leaves-of (c .before .before .new-core .ensures .0) refl refl (c .before .before .new-core .ensures .1))
+returns-7 c = asked _ _ _ _ _ _ _ (c .before .before .before .before .enum-told2 .given .1)
+    (leaves-of (c .before .before .new-core .ensures .0) refl refl (c .before .before .new-core .ensures .1))
 
 same-length-7 : tie.Need-same-length-7
 same-length-7 c = search needs

@@ -1,8 +1,9 @@
--- `distance::gap` meets its contract: each step by its lemma of proofs/Signs.antt.
+-- `distance::gap` meets its contract: each step by its lemma.
 -- Assumes nothing.
 use mathlib.Core.Path.{_∙_}
 use native.Mathlib.Omega.{arith}
-use Rattle.distance.proofs.Signs.{back-32, gap-fits, gap-apart, apart-small}
+use Rattle.laws.proofs.Signs.{back-32}
+use Rattle.distance.proofs.Signs.{gap-fits, gap-apart, apart-small}
 use Rattle.distance.proofs.gap.Statement.{statement}
 use Rattle.distance.proofs.gap.Tie as tie
 

@@ -1,7 +1,7 @@
--- `distance::size` meets its contract: each step by its lemma of proofs/Signs.antt.
+-- `distance::size` meets its contract: each step by its lemma in laws.
 -- Assumes nothing.
 use borrow.Author.Needs.{needs}
-use Rattle.distance.proofs.Signs.{turned-fits, turned-casts, turned-size, plain-casts}
+use Rattle.laws.proofs.Signs.{turned-fits, turned-casts, turned-size, plain-casts}
 use Rattle.distance.proofs.size.Statement.{statement}
 use Rattle.distance.proofs.size.Tie as tie
 

@@ -1,7 +1,7 @@
 use mathlib.Core.Path.{sym, _∙_}
 use Rattle.laws.proofs.Tests.{was-false, was-true}
 use Rattle.hearing.specs.Hear.{listsOf}
-use Rattle.hearing.proofs.Announcing.{within-fits}
+use Rattle.announcing.proofs.Announcing.{within-fits}
 use Rattle.hearing.proofs.Answers.{no-record, beyond, booked}
 use borrow.Author.Needs.{needs}
 use Rattle.hearing.proofs.hear_station.Statement.{statement}

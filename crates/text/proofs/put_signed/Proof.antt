@@ -6,16 +6,17 @@ use native.Mathlib.Omega.{arith}
 use lib.IntN.{natAbs}
 use lib.ListN.{length, length-set, length-take, length-drop}
 use Rattle.laws.specs.Lists.{over}
+use Rattle.laws.proofs.Signs.{back-32, back-small, turned-fits, turned-casts, plain-casts}
 use Rattle.text.specs.Text.{decimal, spaced}
 use Rattle.text.proofs.Digits.{short}
 use Rattle.text.proofs.Parts.{after-two, length-over}
-use Rattle.text.proofs.Signs.{turned, wide-fits, turned-fits, turned-casts, turned-text, plain-casts, plain-text}
+use Rattle.text.proofs.Signs.{turned, turned-text, plain-text}
 use borrow.Author.Needs.{needs}
 use Rattle.text.proofs.put_signed.Statement.{statement}
 use Rattle.text.proofs.put_signed.Tie as tie
 
 cast-w : tie.Need-cast-w
-cast-w c = wide-fits _ (c .before .fits .z)
+cast-w c = back-32 _ (c .before .fits .z)
 
 slice-write-out : tie.Need-slice-write-out
 slice-write-out c = search needs
@@ -24,10 +25,10 @@ slice-write-out-2 : tie.Need-slice-write-out-2
 slice-write-out-2 c = simp length-set (omega arith)
 
 sub-put-decimal : tie.Need-sub-put-decimal
-sub-put-decimal c = turned-fits _ (c .before .before .fits .z) (c .if1 .taken)
+sub-put-decimal c = let f = c .before .before .fits .z in turned-fits _ (back-32 _ f) (back-small _ f)
 
 cast-put-decimal : tie.Need-cast-put-decimal
-cast-put-decimal c = turned-casts _ (c .before .before .fits .z) (c .if1 .taken)
+cast-put-decimal c = let f = c .before .before .fits .z in turned-casts _ (back-32 _ f) (back-small _ f) (c .if1 .taken)
 
 sub-put-decimal-2 : tie.Need-sub-put-decimal-2
 sub-put-decimal-2 c = simp length-set (omega arith)
@@ -61,7 +62,7 @@ returns c =
     )
 
 cast-put-number : tie.Need-cast-put-number
-cast-put-number c = plain-casts _ (c .before .before .fits .z) (c .if1 .left)
+cast-put-number c = let f = c .before .before .fits .z in plain-casts _ (back-32 _ f) (back-small _ f) (c .if1 .left)
 
 put-number-requires : tie.Need-put-number-requires
 put-number-requires c κs = search needs

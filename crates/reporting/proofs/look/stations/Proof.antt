@@ -1,8 +1,9 @@
 use Prim.Native.Nat.{_-_, _≤_}
 use native.Mathlib.Omega.{arith}
 use lib.ListN.{length}
+use Rattle.laws.proofs.Sums.{bit-le}
 use Rattle.laws.proofs.Loops.{Fold, fold-none}
-use Rattle.reporting.proofs.Looking.{bit-most, counting, count-on, count-all}
+use Rattle.reporting.proofs.Looking.{counting, count-on, count-all}
 use borrow.Author.Needs.{needs}
 use Rattle.reporting.proofs.look.stations.Statement.{statement}
 use Rattle.reporting.proofs.look.stations.Tie as tie
@@ -27,7 +28,7 @@ heard-bit-requires : tie.Need-heard-bit-requires Inv-loop μ-loop
 heard-bit-requires c κs = search needs
 
 add-n : tie.Need-add-n Inv-loop μ-loop
-add-n c = omega (arith, bit-most _ _ (c .heard-bit .ensures))
+add-n c = omega (arith, bit-le _ _ (c .heard-bit .ensures))
 
 add-i : tie.Need-add-i Inv-loop μ-loop
 add-i c = search needs
@@ -36,7 +37,7 @@ loop-less : tie.Need-loop-less Inv-loop μ-loop
 loop-less c = search needs
 
 loop-again : tie.Need-loop-again Inv-loop μ-loop
-loop-again c = (omega (arith, bit-most _ _ (c .heard-bit .ensures)), count-on _ _ _ (c .before .before .before .loop .inv .1) _ (c .before .before .loop-test .taken) (c .heard-bit .ensures))
+loop-again c = (omega (arith, bit-le _ _ (c .heard-bit .ensures)), count-on _ _ _ (c .before .before .before .loop .inv .1) _ (c .before .before .loop-test .taken) (c .heard-bit .ensures))
 
 returns : tie.Need-returns Inv-loop μ-loop
 returns c = count-all _ _ _ (c .before .loop .inv .1) (c .loop-test .left)

@@ -1,0 +1,4 @@
+pub mod Booking
+pub mod Holding
+pub mod Announcing
+pub mod Keeping
