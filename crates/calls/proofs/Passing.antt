@@ -8,15 +8,14 @@ use native.Mathlib.Nat.{add-zero, add-suc}
 use native.Mathlib.Omega.{arith}
 use borrow.Author.Tests.{eqb-true}
 use lib.Dec.{eqb}
-use lib.ListN.{length, drop, length-set, length-append, length-take, length-drop, length-map}
+use lib.ListN.{length, drop, length-append, length-take, length-drop, length-map}
 use Rattle.laws.specs.Loops.{upto}
-use Rattle.laws.proofs.Upto.{upto-keeps}
 use Rattle.numbers.specs.declared.Refusal.the-variants.{OtherLength}
-use Rattle.book.specs.Book.{Book, slotTimes, records, holders, raised, lowered, putAt, holder, countsOf, talliesOf}
+use Rattle.book.specs.Book.{slotTimes, records, holders, countsOf, talliesOf}
 use Rattle.book.specs.Pass.{Moment, momentOf, passed, passes}
 use Rattle.book.specs.Sizes.{sized, allSized}
+use Rattle.book.proofs.Lengths.{passes-sizes}
 use Rattle.book.proofs.Once.{parts-make}
-use Rattle.book.proofs.Soundness.{length-alter}
 use Rattle.choosing.specs.declared.Ask.{Ask as ChooseAsk}
 use Rattle.choosing.specs.Choosing.{chooseAnswer, chooseTests}
 use Rattle.register.specs.declared.Station.{Station}
@@ -47,21 +46,6 @@ use Rattle.calls.specs.Calls.{asked, callOf}
 use Rattle.calls.specs.Promises.{thenAsked, PassesApart, PassesFirst, PassesAdd, RefusedStillPasses}
 use Rattle.calls.proofs.Promised.{refused-keeps-all}
 use Rattle.calls.proofs.Ageing.{aged, aged-length, aged-tallies, aged-words, aged-on, all-stay}
-
--- ---- the book
-
-abbrev SameSizes : Book → Book → Type 0
-SameSizes b c = (length (b .slots) ≡ length (c .slots)) × (length (b .tallies) ≡ length (c .tallies))
-
-pass-sizes : (m : Moment) → SameSizes (passed m .book) (m .book)
-unfolding passed putAt
-pass-sizes m =
-    let at = m .present % slotTimes in
-    (length-set (m .book .slots) at 0, length-alter raised _ 0 ∙ length-alter lowered (m .book .tallies) (holder (m .book) at))
-
-passes-sizes : (m : Moment) (n : ℕ) → SameSizes (passes m n .book) (m .book)
-passes-sizes m n =
-    upto-keeps _ m (λ (x : Moment). SameSizes (x .book) (m .book)) n (λ x i l h. (pass-sizes x .0 ∙ h .0, pass-sizes x .1 ∙ h .1)) (refl, refl)
 
 passes-on : (m : Moment) (j k : ℕ) → passes (passes m j) k ≡ passes m (j + k)
 unfolding upto

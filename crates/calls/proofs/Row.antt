@@ -17,12 +17,16 @@ use Rattle.register.specs.declared.Station.{Station}
 use Rattle.register.specs.Register.{blank}
 use Rattle.register.proofs.Station as T
 use Rattle.register.proofs.Station.Laws as T′
+use Rattle.calls.proofs.Datum.{Datum, Law, struct, struct-law}
 
 abbrev pub R : RattleType
 R = T.the-row
 
-abbrev pub val : Station → Val
-val = LL.val T.the-type T′.the-laws
+abbrev pub StationD : Datum
+StationD = struct T.the-type
+
+abbrev pub StationL : Law StationD
+StationL = struct-law T.the-type T′.the-laws T′.the-plain
 
 abbrev pub vals : Station → List Val
 vals = LL.vals T.the-type T′.the-laws

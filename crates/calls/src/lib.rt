@@ -42,15 +42,19 @@ fn words_out(reg: &[Station], a: &mut [u32; 255], x: Ask)
     }
 }
 
-// Back to the register: each record settled by its two numbers and the order.
+// Back to the register: each record kept by its two numbers and the order, and then the one in which a station was entered.
 fn settle_back(reg: &mut [Station], a: &[u16; 255], b: &[u32; 255], z: Order)
     ensures { λ _. ⌜ now (reg .exit) ≡ settled (settle z) (now (reg .entry)) (now (a .entry)) (now (b .entry)) ⌝ }
 {
     if reg.len() == 255 {
         let mut i = 0;
         while i < 255 {
-            reg[i] = register::settle(i, reg[i], a[i], b[i], z);
+            reg[i] = register::keep(reg[i], a[i], b[i], z);
             i += 1;
+        }
+        let at = register::place(z);
+        if at < 255 {
+            reg[at] = register::enter(reg[at], b[at], z);
         }
     }
 }

@@ -1,7 +1,7 @@
 -- A record's columns and the record after a call, by the tests on the way.
 -- Assumes nothing.
 use mathlib.Core.Path.{_≡_, refl, sym, ap, _∙_}
-use mathlib.Core.Bool.{true, false}
+use mathlib.Core.Bool.{Bool, true, false}
 use mathlib.Core.Logic.{inl, inr}
 use mathlib.Core.List.{[], _∷_}
 use Prim.Native.Nat.{ℕ, _-_}
@@ -9,7 +9,9 @@ use native.Mathlib.Omega.{arith}
 use borrow.Author.Tests.{eq-eqb, ne-eqb}
 use denote.Enum.Declared.{tagOf}
 use lib.IntN.{ℤ}
+use lib.Dec.{eqb}
 use types.Run.{OneOf}
+use Rattle.laws.specs.Tests.{pick}
 use Rattle.distance.specs.Distance.{reachOf}
 use Rattle.choosing.specs.declared.Ask.{Ask as ChooseAsk}
 use Rattle.choosing.specs.Own.{held}
@@ -19,7 +21,7 @@ use Rattle.register.specs.declared.What.{What}
 use Rattle.register.specs.declared.What.the-variants.{Nothing, Hear, Plan, Own, Choose, Report, New, Sum}
 use Rattle.register.specs.declared.Ask.{Ask}
 use Rattle.register.specs.declared.Order.{Order}
-use Rattle.register.specs.Register.{blank, reachIn, wordBy, wordOf, holdAfter, changed, settle}
+use Rattle.register.specs.Register.{blank, reachIn, wordBy, wordOf, holdAfter, kept, changed, settle, keep, enter}
 use Rattle.register.proofs.What.{the-type}
 
 -- ---- the second column
@@ -66,41 +68,62 @@ module _ (hold word : ℕ) (o : Order) where
   unfolding holdAfter
   none-held e = rw e
 
--- ---- the record
+-- ---- the record that is kept
 
-module _ (o : Order) (i : ℕ) (s : Station) (tally word h : ℕ) (lat lon : ℤ) (is : h ≡ holdAfter (s .hold) word o) where
-  -- no station was entered in it
-  pub stays : (i ≡ o .at → ⊥) → lat ≡ s .latitude → lon ≡ s .longitude
-      → _≡_ {A = Station} (record { source = s .source; base = s .base; latitude = lat; longitude = lon; tally = tally; hold = h }) (changed o i s tally word)
-  unfolding changed
-  stays n e f =
-      (λ j. record { source = s .source; base = s .base; latitude = e j; longitude = f j; tally = tally; hold = is j })
-      ∙ rw (ne-eqb i (o .at) n)
+module _ (o : Order) (s : Station) (tally word : ℕ) where
+  -- the register is to be new
+  pub made-new : o .fresh ≡ true → blank ≡ keep o s tally word
+  unfolding keep
+  made-new e = rw e
 
-  module _ (here : i ≡ o .at) (e : lat ≡ o .latitude) (f : lon ≡ o .longitude) where
+  -- it is not
+  pub not-new : o .fresh ≡ false → (h : ℕ) (lat lon : ℤ) → h ≡ holdAfter (s .hold) word o → lat ≡ s .latitude → lon ≡ s .longitude
+      → _≡_ {A = Station} (record { source = s .source; base = s .base; latitude = lat; longitude = lon; tally = tally; hold = h }) (keep o s tally word)
+  unfolding keep
+  not-new n h lat lon is e f =
+      (λ j. record { source = s .source; base = s .base; latitude = e j; longitude = f j; tally = tally; hold = is j }) ∙ rw n
+
+-- ---- a station entered in it
+
+module _ (o : Order) (s : Station) (word : ℕ) where
+  -- not where the register is to be new
+  pub not-entered : o .fresh ≡ true → s ≡ enter o s word
+  unfolding enter
+  not-entered e = rw e
+
+  module _ (n : o .fresh ≡ false) (lat lon : ℤ) (e : lat ≡ o .latitude) (f : lon ≡ o .longitude) where
     -- it was taken over
     pub taken-over : o .taken ≡ true
-        → _≡_ {A = Station} (record { source = word; base = o .base; latitude = lat; longitude = lon; tally = tally; hold = 0 }) (changed o i s tally word)
-    unfolding changed
+        → _≡_ {A = Station} (record { source = word; base = o .base; latitude = lat; longitude = lon; tally = s .tally; hold = 0 }) (enter o s word)
+    unfolding enter
     taken-over t =
-        (λ j. record { source = word; base = o .base; latitude = e j; longitude = f j; tally = tally; hold = 0 })
-        ∙ rw (eq-eqb i (o .at) here, t)
+        (λ j. record { source = word; base = o .base; latitude = e j; longitude = f j; tally = s .tally; hold = 0 }) ∙ rw (n, t)
 
     -- its station was heard again
     pub heard-again : o .taken ≡ false
-        → _≡_ {A = Station} (record { source = word; base = o .base; latitude = lat; longitude = lon; tally = tally; hold = h }) (changed o i s tally word)
-    unfolding changed
+        → _≡_ {A = Station} (record { source = word; base = o .base; latitude = lat; longitude = lon; tally = s .tally; hold = s .hold }) (enter o s word)
+    unfolding enter
     heard-again t =
-        (λ j. record { source = word; base = o .base; latitude = e j; longitude = f j; tally = tally; hold = is j })
-        ∙ rw (eq-eqb i (o .at) here, t)
+        (λ j. record { source = word; base = o .base; latitude = e j; longitude = f j; tally = s .tally; hold = s .hold }) ∙ rw (n, t)
 
-module _ (o : Order) (i : ℕ) (s : Station) (tally word : ℕ) where
-  -- the register is to be new
-  pub made-new : o .fresh ≡ true → blank ≡ settle o i s tally word
-  unfolding settle
-  made-new e = rw e
+-- ---- settled in these two steps
 
-  -- it is kept
-  pub not-new : o .fresh ≡ false → changed o i s tally word ≡ settle o i s tally word
-  unfolding settle
-  not-new e = rw e
+either : (f t : Bool) (b k : Station) (g : Station → Station)
+    → pick f b (pick t (g k) k) ≡ pick t (pick f (pick f b k) (g (pick f b k))) (pick f b k)
+either true true b k g = refl
+either true false b k g = refl
+either false true b k g = refl
+either false false b k g = refl
+
+pub in-two-steps : (o : Order) (i : ℕ) (s : Station) (tally word : ℕ)
+    → settle o i s tally word ≡ pick (eqb i (o .at)) (enter o (keep o s tally word) word) (keep o s tally word)
+unfolding settle changed keep enter
+in-two-steps o i s tally word =
+    either (o .fresh) (eqb i (o .at)) blank (kept o s tally word) (λ r. record {
+      source = word;
+      base = o .base;
+      latitude = o .latitude;
+      longitude = o .longitude;
+      tally = r .tally;
+      hold = pick (o .taken) 0 (r .hold);
+    })

@@ -88,3 +88,21 @@ changed o i s tally word = pick (eqb i (o .at)) (entered o s tally word) (kept o
 -- blank in a register that is to be new
 unfoldable pub settle : Order → ℕ → Station → ℕ → ℕ → Station
 settle o i s tally word = pick (o .fresh) blank (changed o i s tally word)
+
+-- ---- the same in two steps: every record is kept, and then a station is entered in the one at o .at
+
+-- blank in a register that is to be new
+unfoldable pub keep : Order → Station → ℕ → ℕ → Station
+keep o s tally word = pick (o .fresh) blank (kept o s tally word)
+
+-- s is the record as it was kept; nothing is entered in a register that is to be new
+unfoldable pub enter : Order → Station → ℕ → Station
+enter o s word =
+    pick (o .fresh) s (record {
+      source = word;
+      base = o .base;
+      latitude = o .latitude;
+      longitude = o .longitude;
+      tally = s .tally;
+      hold = pick (o .taken) 0 (s .hold);
+    })

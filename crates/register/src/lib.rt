@@ -1,8 +1,9 @@
 // The station records, and what a call asks and leaves of each. A call goes through the register twice: two columns of numbers are taken
-// from it, and then each record is settled by its two numbers and an order. Promise: as specs/Register.antt says of each record.
+// from it, and then each record is settled by its two numbers and an order: all are kept, and a station that was heard is entered in its own.
+// Promise: as specs/Register.antt says of each record.
 ghost use Prim.Native.Nat.{_-_};
 ghost use mathlib.Core.Path.{_≡_};
-ghost use Rattle.register.specs.Register.{blank, newWatch, tallyOf, wordOf, holdAfter, changed, settle};
+ghost use Rattle.register.specs.Register.{blank, newWatch, tallyOf, wordOf, holdAfter, keep, enter};
 use book::Counts;
 use choosing::marks::HELD;
 use distance::reach;
@@ -154,20 +155,37 @@ fn hold_after(hold: u16, word: u32, o: Order) -> u16
     less
 }
 
-// The record i after a call that keeps the register.
-fn changed(i: usize, s: Station, tally: u16, word: u32, o: Order) -> Station
-    ensures { λ r. ⌜ r ≡ changed o i s tally word ⌝ }
+// A record after the call, where no station was entered in it: in a register that is kept, only its tally and hold-off are other ones.
+pub fn keep(s: Station, tally: u16, word: u32, o: Order) -> Station
+    ensures { λ r. ⌜ r ≡ keep o s tally word ⌝ }
 {
+    if o.fresh {
+        return blank();
+    }
     let hold = hold_after(s.hold, word, o);
-    if i != o.at {
-        return Station {
-            source: s.source,
-            base: s.base,
-            latitude: s.latitude,
-            longitude: s.longitude,
-            tally,
-            hold,
-        };
+    Station {
+        source: s.source,
+        base: s.base,
+        latitude: s.latitude,
+        longitude: s.longitude,
+        tally,
+        hold,
+    }
+}
+
+// The record that a station has now.
+pub fn place(o: Order) -> usize
+    ensures { λ r. ⌜ r ≡ o .at ⌝ }
+{
+    o.at
+}
+
+// A record as it was kept, once the station is entered in it. Nothing is entered in a register that is to be new.
+pub fn enter(s: Station, word: u32, o: Order) -> Station
+    ensures { λ r. ⌜ r ≡ enter o s word ⌝ }
+{
+    if o.fresh {
+        return s;
     }
     if o.taken {
         return Station {
@@ -175,7 +193,7 @@ fn changed(i: usize, s: Station, tally: u16, word: u32, o: Order) -> Station
             base: o.base,
             latitude: o.latitude,
             longitude: o.longitude,
-            tally,
+            tally: s.tally,
             hold: 0,
         };
     }
@@ -184,17 +202,7 @@ fn changed(i: usize, s: Station, tally: u16, word: u32, o: Order) -> Station
         base: o.base,
         latitude: o.latitude,
         longitude: o.longitude,
-        tally,
-        hold,
+        tally: s.tally,
+        hold: s.hold,
     }
-}
-
-// The record i after the call.
-pub fn settle(i: usize, s: Station, tally: u16, word: u32, o: Order) -> Station
-    ensures { λ r. ⌜ r ≡ settle o i s tally word ⌝ }
-{
-    if o.fresh {
-        return blank();
-    }
-    changed(i, s, tally, word, o)
 }

@@ -30,8 +30,13 @@ unfolding code.routine tablesOf
 call-spec 𝓤 H 𝓜 𝓖 𝓡 =
     entered 𝓤 H (tripleOf 𝓤 H (𝓖 .A) f.signature (f.spec 𝓤 H (𝓖 .A) (𝓜 .mem) (𝓡 .run)))
     (tables 𝓤 H 𝓜 𝓡 code.env .C) (tables 𝓤 H 𝓜 𝓡 code.env .Λ) #f code.function (code.unfolded 𝓤 H 𝓜 𝓡)
-    (meets AskD AskL OrderD OrderL ReplyD ReplyL CoreO CoreL tallyOf wordOf settle coreOf unsized call-refuses o16-def.name o32-def.name core-def.name back-def.name 𝓤 H (𝓖 .A) (givenOf 𝓤 H 𝓜 𝓖) (tablesOf 𝓤 H 𝓜 (tables 𝓤 H 𝓜 𝓡 code.env))
-    (cited 𝓤 H (tripleOf 𝓤 H (𝓖 .A) o16.signature (o16.spec 𝓤 H (𝓖 .A) (𝓜 .mem) (𝓡 .run))) 𝓜 𝓡 code.env o16-def.name o16-def.routine code.calls-calls·tallies-out (o16-thm.met 𝓤 H 𝓜 𝓖 𝓡))
-    (cited 𝓤 H (tripleOf 𝓤 H (𝓖 .A) o32.signature (o32.spec 𝓤 H (𝓖 .A) (𝓜 .mem) (𝓡 .run))) 𝓜 𝓡 code.env o32-def.name o32-def.routine code.calls-calls·words-out (o32-thm.met 𝓤 H 𝓜 𝓖 𝓡))
-    (cited 𝓤 H (tripleOf 𝓤 H (𝓖 .A) core.signature (core.spec 𝓤 H (𝓖 .A) (𝓜 .mem) (𝓡 .run))) 𝓜 𝓡 code.env core-def.name core-def.routine code.calls-cores·core (core-thm.met 𝓤 H 𝓜 𝓖 𝓡))
-    (cited 𝓤 H (tripleOf 𝓤 H (𝓖 .A) back.signature (back.spec 𝓤 H (𝓖 .A) (𝓜 .mem) (𝓡 .run))) 𝓜 𝓡 code.env back-def.name back-def.routine code.calls-calls·settle-back (back-thm.met 𝓤 H 𝓜 𝓖 𝓡)))
+    (meets AskD AskL OrderD OrderL ReplyD ReplyL CoreO CoreL tallyOf wordOf settle coreOf unsized call-refuses
+    o16-def.name o32-def.name core-def.name back-def.name 𝓤 H (𝓖 .A) (givenOf 𝓤 H 𝓜 𝓖) (tablesOf 𝓤 H 𝓜 (tables 𝓤 H 𝓜 𝓡 code.env))
+    (cited 𝓤 H (tripleOf 𝓤 H (𝓖 .A) o16.signature (o16.spec 𝓤 H (𝓖 .A) (𝓜 .mem) (𝓡 .run))) 𝓜 𝓡 code.env
+    o16-def.name o16-def.routine code.calls-calls·tallies-out (o16-thm.met 𝓤 H 𝓜 𝓖 𝓡))
+    (cited 𝓤 H (tripleOf 𝓤 H (𝓖 .A) o32.signature (o32.spec 𝓤 H (𝓖 .A) (𝓜 .mem) (𝓡 .run))) 𝓜 𝓡 code.env
+    o32-def.name o32-def.routine code.calls-calls·words-out (o32-thm.met 𝓤 H 𝓜 𝓖 𝓡))
+    (cited 𝓤 H (tripleOf 𝓤 H (𝓖 .A) core.signature (core.spec 𝓤 H (𝓖 .A) (𝓜 .mem) (𝓡 .run))) 𝓜 𝓡 code.env
+    core-def.name core-def.routine code.calls-cores·core (core-thm.met 𝓤 H 𝓜 𝓖 𝓡))
+    (cited 𝓤 H (tripleOf 𝓤 H (𝓖 .A) back.signature (back.spec 𝓤 H (𝓖 .A) (𝓜 .mem) (𝓡 .run))) 𝓜 𝓡 code.env
+    back-def.name back-def.routine code.calls-calls·settle-back (back-thm.met 𝓤 H 𝓜 𝓖 𝓡)))

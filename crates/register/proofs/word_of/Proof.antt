@@ -27,7 +27,12 @@ returns-2 c =
     let a = c .before .before .before .before .before .before .before .args in
     let f = c .before .struct-told .given in
     c .reach .ensures
-    ∙ (λ i. reachOf (a .x .watch .ship) (record { base = a .s .base; latitude = toZ-ofZ {w = w32} {z = a .s .latitude} (sfits-of (f .1 .1 .0 .1)) i; longitude = toZ-ofZ {w = w32} {z = a .s .longitude} (sfits-of (f .1 .1 .1 .0 .1)) i; hold = c .before .before .fallen .ensures i }))
+    ∙ (λ i. reachOf (a .x .watch .ship) (record {
+      base = a .s .base;
+      latitude = toZ-ofZ {w = w32} {z = a .s .latitude} (sfits-of (f .1 .1 .0 .1)) i;
+      longitude = toZ-ofZ {w = w32} {z = a .s .longitude} (sfits-of (f .1 .1 .1 .0 .1)) i;
+      hold = c .before .before .fallen .ensures i;
+    }))
     ∙ chosen-word (a .x) (a .s) _ (c .before .before .before .before .before .enum-told .given .1)
 
 pub word-of-spec : {M : Type 1} → statement M
