@@ -4,7 +4,7 @@ use mathlib.Core.Path.{_≡_, refl, sym, ap, ap₂, _∙_}
 use mathlib.Core.Bool.{Bool, true, false}
 use mathlib.Core.List.{List, [], _∷_, _++_}
 use Prim.Native.Nat.{ℕ, zero, suc, _+_, _-_, _*_, _/_, _%_, _^_, _≤_, _<_}
-use native.Mathlib.Nat.{zero-add, suc-add, add-comm, lt-of-lt-of-le, pow-suc, mul-assoc, mul-comm, div-div-eq-div-mul}
+use native.Mathlib.Nat.{zero-add, suc-add, add-comm, lt-of-lt-of-le, pow-suc, mul-assoc}
 use native.Mathlib.Numerals.{one-add}
 use native.Mathlib.Omega.{arith}
 use borrow.Author.Tests.{le-leb, leb-true}
@@ -143,13 +143,6 @@ value-bound zero bits e = omega arith
 value-bound (suc n) [] e = omega (arith, value-bound n [] e)
 value-bound (suc n) (b ∷ bs) e = omega (arith, value-bound n bs (bit-tail b bs e), bit-head b bs e)
 
-pub value-byte : (bits : List ℕ) → length bits ≡ 8 → allBits bits ≡ true → lowValue bits < 256
-value-byte bits l e = rw (take-all 8 bits (omega arith)) at (value-bound 8 bits e)
-
-pub value-eight : (v : ℕ) → lowValue (lowFirst 8 v) ≡ v % 256
-unfolding lowValue lowFirst
-value-eight v = omega arith
-
 -- ---- the number of bits, the highest first
 
 pub value-append : (xs ys : List ℕ) (a : ℕ) → highValue a (xs ++ ys) ≡ highValue (highValue a xs) ys
@@ -202,9 +195,6 @@ high-low n v =
     let m : highValue 0 (highFirst n v) ≡ v % 2 ^ n = value-high n v 0 ∙ omega arith in
     rw (m, length-highFirst n v) at (high-back (highFirst n v) 0 (high-bits n v))
 
-pub high-split : (v : ℕ) → highFirst 16 v ≡ highFirst 8 (v / 256) ++ highFirst 8 (v % 256)
-high-split v = high-append 8 8 v ∙ ap (highFirst 8 (v / 256) ++_) (sym (high-low 8 v))
-
 -- ---- the bits of two numbers, one after the other
 
 pub low-append : (h m a v : ℕ) → a < 2 ^ h → lowFirst h a ++ lowFirst m v ≡ lowFirst (h + m) (a + v * 2 ^ h)
@@ -224,13 +214,6 @@ low-split h w =
     let n : 8 + h ≡ suc (suc (suc (suc (suc (suc (suc (suc h))))))) = omega arith in
     let e : w / 2 / 2 / 2 / 2 / 2 / 2 / 2 / 2 ≡ w / 256 = omega arith in
     rw (n, e)
-
-pub low-last : (n v : ℕ) → lowFirst (suc n) v ≡ lowFirst n v ++ (v / 2 ^ n % 2 ∷ [])
-unfolding lowFirst
-low-last zero v = let e : v / 2 ^ 0 ≡ v = omega arith in rw e
-low-last (suc n) v =
-    let e : v / 2 / 2 ^ n ≡ v / 2 ^ suc n = div-div-eq-div-mul v 2 (2 ^ n) ∙ ap (v /_) (mul-comm 2 (2 ^ n) ∙ sym (pow-suc 2 n)) in
-    ap (λ (t : List ℕ). v % 2 ∷ t) (low-last n (v / 2) ∙ ap (λ (m : ℕ). lowFirst n (v / 2) ++ (m % 2 ∷ [])) e)
 
 -- the low bits of a number are those of its low byte
 eight-low : (v : ℕ) → (v % 2 ≡ v % 256 % 2) × (v / 2 % 2 ≡ v % 256 / 2 % 2) × (v / 2 / 2 % 2 ≡ v % 256 / 2 / 2 % 2) × (v / 2 / 2 / 2 % 2 ≡ v % 256 / 2 / 2 / 2 % 2)

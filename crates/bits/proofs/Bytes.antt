@@ -3,17 +3,17 @@
 use mathlib.Core.Path.{_≡_, refl, sym, ap, ap₂, _∙_}
 use mathlib.Core.Bool.{Bool, true}
 use mathlib.Core.List.{List, [], _∷_, _++_, append-assoc}
-use Prim.Native.Nat.{ℕ, zero, suc, _+_, _*_, _/_, _≤_, _<_}
+use Prim.Native.Nat.{ℕ, zero, suc, _+_, _*_, _≤_, _<_}
 use native.Mathlib.Omega.{arith}
-use lib.Dec.{T, ltb, ltb→lt}
+use lib.Dec.{T}
 use lib.ListN.{length, take, drop, length-append, length-drop}
 use lib.Seq.{take-at, drop-at, take-add, length-take-le}
 use Rattle.laws.specs.Lists.{same, AllBytes}
 use Rattle.laws.proofs.Tests.{is-true}
 use Rattle.laws.proofs.Lists.{same→eq}
 use Rattle.laws.proofs.Table.{allBelow, below}
-use Rattle.bits.specs.Bits.{lowFirst, highFirst, lowValue, highValue, turned, allBits, joined, eights, sentBits, bytesOf, bytesIn}
-use Rattle.bits.proofs.Bits.{allBits-end, allBits-append, allBits-take, allBits-drop, low-bits, length-lowFirst, value-back, value-high, bits-back}
+use Rattle.bits.specs.Bits.{lowFirst, highFirst, lowValue, turned, allBits, joined, eights, sentBits, bytesOf}
+use Rattle.bits.proofs.Bits.{allBits-end, allBits-append, allBits-take, allBits-drop, low-bits, length-lowFirst, value-back, bits-back}
 
 -- ---- a byte: a test at each of 256
 
@@ -28,36 +28,6 @@ all-turn-well = tt
 pub sent-byte : (b : ℕ) → b < 256 → highFirst 8 (turned b) ≡ lowFirst 8 b
 unfolding turns-well
 sent-byte b h = same→eq _ _ (is-true (below turns-well 256 all-turn-well b h))
-
-stays-byte : ℕ → Bool
-unfolding turned
-stays-byte b = ltb (turned b) 256
-
-all-stay-bytes : T (allBelow stays-byte 256)
-unfolding stays-byte
-all-stay-bytes = tt
-
-pub turned-8 : (b : ℕ) → b < 256 → turned b < 256
-unfolding stays-byte
-turned-8 b h = ltb→lt (turned b) 256 (below stays-byte 256 all-stay-bytes b h)
-
-turns-back : ℕ → Bool
-unfolding same turned highFirst lowFirst
-turns-back b = same (lowFirst 8 (turned b)) (highFirst 8 b)
-
-all-turn-back : T (allBelow turns-back 256)
-unfolding turns-back
-all-turn-back = tt
-
-pub turned-back : (b : ℕ) → b < 256 → lowFirst 8 (turned b) ≡ highFirst 8 b
-unfolding turns-back
-turned-back b h = same→eq _ _ (is-true (below turns-back 256 all-turn-back b h))
-
--- numbers of two bytes with the same bits are the same
-pub high-same : (a b : ℕ) → a < 65536 → b < 65536 → highFirst 16 a ≡ highFirst 16 b → a ≡ b
-high-same a b ha hb e =
-    let back : (v : ℕ) → v < 65536 → highValue 0 (highFirst 16 v) ≡ v = λ v h. value-high 16 v 0 ∙ omega arith in
-    sym (back a ha) ∙ ap (highValue 0) e ∙ back b hb
 
 -- ---- eight elements for each byte, and a byte for each eight
 
@@ -128,16 +98,6 @@ sent-bits p = joined-bits (lowFirst 8) (low-bits 8) p
 pub length-bytesOf : (n : ℕ) (bits : List ℕ) → length (bytesOf n bits) ≡ n
 unfolding bytesOf
 length-bytesOf n bits = length-eights lowValue n bits
-
-pub bytesIn-none : (us : List ℕ) → length us < 8 → bytesIn us ≡ []
-unfolding bytesIn bytesOf eights
-bytesIn-none us h = let e : length us / 8 ≡ 0 = omega arith in rw e
-
-pub bytesIn-more : (xs us : List ℕ) → length xs ≡ 8 → bytesIn (xs ++ us) ≡ lowValue xs ∷ bytesIn us
-unfolding bytesIn bytesOf eights
-bytesIn-more xs us e =
-    let n : length (xs ++ us) / 8 ≡ suc (length us / 8) = omega (arith, length-append xs us) in
-    rw (n, take-at xs us 8 e, drop-at xs us 8 e)
 
 -- ---- there and back
 

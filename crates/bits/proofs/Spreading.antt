@@ -8,12 +8,11 @@ use native.Mathlib.Nat.{pow-suc, mul-assoc}
 use native.Mathlib.Omega.{arith}
 use lib.Bits.{bitAnd}
 use borrow.Author.Tests.{eqb-true}
-use lib.Dec.{T, eqb, ltb, ltb→lt}
+use lib.Dec.{T, eqb}
 use lib.ListN.{length, getD, take, drop, set, length-drop}
 use lib.Seq.{sets, getD-take, getD-drop, length-take-le, take-add, drop-drop}
-use Rattle.laws.specs.Tests.{both}
 use Rattle.laws.specs.Lists.{same}
-use Rattle.laws.proofs.Tests.{is-true, of-true, both-left, both-right}
+use Rattle.laws.proofs.Tests.{is-true}
 use Rattle.laws.proofs.Lists.{same→eq}
 use Rattle.laws.proofs.Table.{allBelow, below}
 use Rattle.bits.specs.Bits.{lowFirst, highFirst, lowValue, allBits, eightOf, fourOf}

@@ -11,7 +11,7 @@ use lib.Pow.{pow-pos, pow-add, shl-exact, shr-lt, split, high, low, mod-pow-add,
 use lib.Seq.{sets, drop-cons, length-take-le, length-sets, sets-eq}
 use Rattle.laws.specs.Lists.{AllBytes}
 use Rattle.laws.proofs.Lists.{all-bytes, three-parts}
-use Rattle.bits.specs.Bits.{highFirst, highValue, joined}
+use Rattle.bits.specs.Bits.{highFirst, highValue, joined, eightOf, fourOf}
 use Rattle.bits.specs.Field.{bitsOf, packed, fieldOf, spliced, putField, wordOf, bytesOfWord}
 use Rattle.bits.proofs.Bits.{length-highFirst, high-append, high-low, high-back, value-high, value-append}
 use Rattle.bits.proofs.Spreading.{places}
@@ -60,13 +60,75 @@ eight-at l s h =
       d (suc (suc (suc (suc (suc (suc (suc s))))))) (omega arith),
     )
 
--- the eight bytes from place s on are below 256
-abbrev pub Eight : List ℕ → ℕ → Type 0
-Eight l s = (getD l s 0 < 256) × (getD l (s + 1) 0 < 256) × (getD l (s + 2) 0 < 256) × (getD l (s + 3) 0 < 256)
-    × (getD l (s + 4) 0 < 256) × (getD l (s + 5) 0 < 256) × (getD l (s + 6) 0 < 256) × (getD l (s + 7) 0 < 256)
+-- ---- eight bytes in the other order
 
-pub eight-bytes : (l : List ℕ) → ((i : ℕ) → getD l i 0 < 256) → (s : ℕ) → Eight l s
-eight-bytes l h s = (h s, h (s + 1), h (s + 2), h (s + 3), h (s + 4), h (s + 5), h (s + 6), h (s + 7))
+-- eight bytes
+abbrev Small : ℕ → ℕ → ℕ → ℕ → ℕ → ℕ → ℕ → ℕ → Type 0
+Small a b c d e f g h = (a < 256) × (b < 256) × (c < 256) × (d < 256) × (e < 256) × (f < 256) × (g < 256) × (h < 256)
+
+eight-small : (l : List ℕ) → ((i : ℕ) → getD l i 0 < 256) → (s : ℕ)
+    → Small (getD l s 0) (getD l (s + 1) 0) (getD l (s + 2) 0) (getD l (s + 3) 0) (getD l (s + 4) 0) (getD l (s + 5) 0) (getD l (s + 6) 0) (getD l (s + 7) 0)
+eight-small l h s = (h s, h (s + 1), h (s + 2), h (s + 3), h (s + 4), h (s + 5), h (s + 6), h (s + 7))
+
+-- a byte that stands at bit k
+digit : (k low b up : ℕ) → low < 2 ^ k → b < 256 → {x : ℕ} → x ≡ (up * 256 + b) * 2 ^ k + low → x / 2 ^ k % 256 ≡ b
+digit k low b up small h is = rw (is, high (up * 256 + b) k small) (omega arith)
+
+-- a sum of bytes in their places, the first one the lowest, has these bytes
+eight-back : (a b c d e f g h : ℕ) → Small a b c d e f g h
+    → {x : ℕ} → x ≡ a + b * 2 ^ 8 + c * 2 ^ 16 + d * 2 ^ 24 + e * 2 ^ 32 + f * 2 ^ 40 + g * 2 ^ 48 + h * 2 ^ 56 → eightOf x ≡ a ∷ b ∷ c ∷ d ∷ e ∷ f ∷ g ∷ h ∷ []
+unfolding eightOf
+eight-back a b c d e f g h small {x} is =
+    let ea : x % 256 ≡ a = omega arith in
+    let eb : x / 2 ^ 8 % 256 ≡ b = digit 8 a b (c + d * 2 ^ 8 + e * 2 ^ 16 + f * 2 ^ 24 + g * 2 ^ 32 + h * 2 ^ 40) (omega arith) (small .1) (omega arith) in
+    let ec : x / 2 ^ 16 % 256 ≡ c = digit 16 (a + b * 2 ^ 8) c (d + e * 2 ^ 8 + f * 2 ^ 16 + g * 2 ^ 24 + h * 2 ^ 32) (omega arith) (small .2) (omega arith) in
+    let ed : x / 2 ^ 24 % 256 ≡ d = digit 24 (a + b * 2 ^ 8 + c * 2 ^ 16) d (e + f * 2 ^ 8 + g * 2 ^ 16 + h * 2 ^ 24) (omega arith) (small .3) (omega arith) in
+    let ee : x / 2 ^ 32 % 256 ≡ e = digit 32 (a + b * 2 ^ 8 + c * 2 ^ 16 + d * 2 ^ 24) e (f + g * 2 ^ 8 + h * 2 ^ 16) (omega arith) (small .4) (omega arith) in
+    let ef : x / 2 ^ 40 % 256 ≡ f = digit 40 (a + b * 2 ^ 8 + c * 2 ^ 16 + d * 2 ^ 24 + e * 2 ^ 32) f (g + h * 2 ^ 8) (omega arith) (small .5) (omega arith) in
+    let eg : x / 2 ^ 48 % 256 ≡ g = digit 48 (a + b * 2 ^ 8 + c * 2 ^ 16 + d * 2 ^ 24 + e * 2 ^ 32 + f * 2 ^ 40) g h (omega arith) (small .6) (omega arith) in
+    let eh : x / 2 ^ 56 % 256 ≡ h = digit 56 (a + b * 2 ^ 8 + c * 2 ^ 16 + d * 2 ^ 24 + e * 2 ^ 32 + f * 2 ^ 40 + g * 2 ^ 48) h 0 (omega arith) (small .7) (omega arith) in
+    rw (ea, eb, ec, ed, ee, ef, eg, eh)
+
+-- as the code sums them, the first one the highest
+abbrev sumOf : ℕ → ℕ → ℕ → ℕ → ℕ → ℕ → ℕ → ℕ → ℕ
+sumOf a b c d e f g h = a * 2 ^ 56 % 2 ^ 64 + b * 2 ^ 48 % 2 ^ 64 + (c * 2 ^ 40 % 2 ^ 64 + d * 2 ^ 32 % 2 ^ 64) + (e * 2 ^ 24 % 2 ^ 64 + f * 2 ^ 16 % 2 ^ 64 + (g * 2 ^ 8 % 2 ^ 64 + h))
+
+pub sum-fits : (a b c d e f g h : ℕ) → Small a b c d e f g h → sumOf a b c d e f g h < 2 ^ 64
+sum-fits a b c d e f g h small = omega arith
+
+sum-is : (a b c d e f g h : ℕ) → Small a b c d e f g h → sumOf a b c d e f g h ≡ wordOf (a ∷ b ∷ c ∷ d ∷ e ∷ f ∷ g ∷ h ∷ []) 0
+unfolding wordOf
+sum-is a b c d e f g h small = omega arith
+
+word-back : (a b c d e f g h : ℕ) → Small a b c d e f g h → eightOf (wordOf (a ∷ b ∷ c ∷ d ∷ e ∷ f ∷ g ∷ h ∷ []) 0) ≡ h ∷ g ∷ f ∷ e ∷ d ∷ c ∷ b ∷ a ∷ []
+unfolding wordOf
+word-back a b c d e f g h small = eight-back h g f e d c b a (omega arith) (omega arith)
+
+pub swap-is : (z : ℕ) → z < 2 ^ 64
+    → sumOf (z % 256) (z / 2 ^ 8 % 256) (z / 2 ^ 16 % 256) (z / 2 ^ 24 % 256) (z / 2 ^ 32 % 256) (z / 2 ^ 40 % 256) (z / 2 ^ 48 % 256) (z / 2 ^ 56) ≡ wordOf (eightOf z) 0
+unfolding eightOf
+swap-is z fits =
+    let last : z / 2 ^ 56 % 256 ≡ z / 2 ^ 56 = omega arith in
+    rw last (sum-is _ _ _ _ _ _ _ _ (omega arith))
+
+-- the bytes of a number with its bytes in the other order
+pub swap-bytes : (z : ℕ) → eightOf (wordOf (eightOf z) 0) ≡ bytesOfWord z
+unfolding eightOf bytesOfWord
+swap-bytes z = word-back _ _ _ _ _ _ _ _ (omega arith)
+
+-- eight bytes loaded with the first one lowest, four and four, and put into the other order
+pub swap-loaded : (l : List ℕ) → ((i : ℕ) → getD l i 0 < 256) → (s : ℕ) {low high : ℕ} → low ≡ fourOf l s → high ≡ fourOf l (s + 4)
+    → wordOf (eightOf (low + high * 2 ^ 32 % 2 ^ 64)) 0 ≡ wordOf l s
+unfolding fourOf wordOf
+swap-loaded l bytes s {low} {high} el eh =
+    let p : s + 4 + 1 ≡ s + 5 = omega arith in
+    let q : s + 4 + 2 ≡ s + 6 = omega arith in
+    let r : s + 4 + 3 ≡ s + 7 = omega arith in
+    let eh' : high ≡ getD l (s + 4) 0 + getD l (s + 5) 0 * 256 + getD l (s + 6) 0 * 65536 + getD l (s + 7) 0 * 16777216 = rw (p, q, r) at eh in
+    let small = eight-small l bytes s in
+    ap (λ (t : List ℕ). wordOf t 0) (eight-back _ _ _ _ _ _ _ _ small (omega arith))
+
+-- ---- the bits of eight bytes
 
 bytes-bits : (z : ℕ) → bitsOf (bytesOfWord z) ≡ highFirst 64 z
 unfolding numberOf AllBytes bytesOfWord
@@ -78,8 +140,8 @@ bytes-bits z =
 -- ---- the bits of a number in three parts, and v in the place of the middle one
 
 -- the number with v for the w bits that stand before the last r
-swapped : ℕ → ℕ → ℕ → ℕ → ℕ
-swapped w r a v = a - a / 2 ^ r % 2 ^ w * 2 ^ r + v * 2 ^ r
+replaced : ℕ → ℕ → ℕ → ℕ → ℕ
+replaced w r a v = a - a / 2 ^ r % 2 ^ w * 2 ^ r + v * 2 ^ r
 
 digits : (w r a : ℕ) → a ≡ (a / 2 ^ r / 2 ^ w * 2 ^ w + a / 2 ^ r % 2 ^ w) * 2 ^ r + a % 2 ^ r
 digits w r a = sym (ap (λ (h : ℕ). h * 2 ^ r + a % 2 ^ r) (split (a / 2 ^ r) w) ∙ split a r)
@@ -90,29 +152,29 @@ middle-le w r a = go (a / 2 ^ r / 2 ^ w * 2 ^ w) (a / 2 ^ r % 2 ^ w) (2 ^ r) (a 
     go : (h m p k : ℕ) → a ≡ (h + m) * p + k → m * p ≤ a
     go h m p k e = omega arith
 
-swapped-is : (w r a v : ℕ) → swapped w r a v ≡ (a / 2 ^ r / 2 ^ w * 2 ^ w + v) * 2 ^ r + a % 2 ^ r
-unfolding swapped
-swapped-is w r a v = go (a / 2 ^ r / 2 ^ w * 2 ^ w) (a / 2 ^ r % 2 ^ w) (2 ^ r) (a % 2 ^ r) (digits w r a)
+replaced-is : (w r a v : ℕ) → replaced w r a v ≡ (a / 2 ^ r / 2 ^ w * 2 ^ w + v) * 2 ^ r + a % 2 ^ r
+unfolding replaced
+replaced-is w r a v = go (a / 2 ^ r / 2 ^ w * 2 ^ w) (a / 2 ^ r % 2 ^ w) (2 ^ r) (a % 2 ^ r) (digits w r a)
   where
     go : (h m p k : ℕ) → a ≡ (h + m) * p + k → a - m * p + v * p ≡ (h + v) * p + k
     go h m p k e = omega arith
 
-swapped-fits : (q w r a v : ℕ) → a < 2 ^ (q + w + r) → v < 2 ^ w → swapped w r a v < 2 ^ (q + w + r)
-swapped-fits q w r a v h small =
+replaced-fits : (q w r a v : ℕ) → a < 2 ^ (q + w + r) → v < 2 ^ w → replaced w r a v < 2 ^ (q + w + r)
+replaced-fits q w r a v h small =
     let up : a / 2 ^ r / 2 ^ w < 2 ^ q = shr-lt q w (shr-lt (q + w) r h) in
-    rw (swapped-is w r a v, pow-add 2 (q + w) r, pow-add 2 q w) (digits-lt (digits-lt up small) (mod-lt a (pow-pos r)))
+    rw (replaced-is w r a v, pow-add 2 (q + w) r, pow-add 2 q w) (digits-lt (digits-lt up small) (mod-lt a (pow-pos r)))
 
 high-three : (q w r a : ℕ) → highFirst (q + w + r) a ≡ highFirst q (a / 2 ^ r / 2 ^ w) ++ highFirst w (a / 2 ^ r) ++ highFirst r a
 high-three q w r a = high-append (q + w) r a ∙ ap (_++ highFirst r a) (high-append q w (a / 2 ^ r))
 
-high-swapped : (q w r a v : ℕ) → v < 2 ^ w → highFirst (q + w + r) (swapped w r a v) ≡ highFirst q (a / 2 ^ r / 2 ^ w) ++ highFirst w v ++ highFirst r a
-high-swapped q w r a v small =
+high-replaced : (q w r a v : ℕ) → v < 2 ^ w → highFirst (q + w + r) (replaced w r a v) ≡ highFirst q (a / 2 ^ r / 2 ^ w) ++ highFirst w v ++ highFirst r a
+high-replaced q w r a v small =
     let h = a / 2 ^ r / 2 ^ w in
-    let up : swapped w r a v / 2 ^ r ≡ h * 2 ^ w + v = rw (swapped-is w r a v) (high (h * 2 ^ w + v) r (mod-lt a (pow-pos r))) in
-    let down : swapped w r a v % 2 ^ r ≡ a % 2 ^ r = rw (swapped-is w r a v) (low (h * 2 ^ w + v) r (mod-lt a (pow-pos r))) in
+    let up : replaced w r a v / 2 ^ r ≡ h * 2 ^ w + v = rw (replaced-is w r a v) (high (h * 2 ^ w + v) r (mod-lt a (pow-pos r))) in
+    let down : replaced w r a v % 2 ^ r ≡ a % 2 ^ r = rw (replaced-is w r a v) (low (h * 2 ^ w + v) r (mod-lt a (pow-pos r))) in
     let mid : highFirst w (h * 2 ^ w + v) ≡ highFirst w v = sym (high-low w (h * 2 ^ w + v)) ∙ ap (highFirst w) (low h w small) in
-    let end : highFirst r (swapped w r a v) ≡ highFirst r a = sym (high-low r (swapped w r a v)) ∙ ap (highFirst r) down ∙ high-low r a in
-    high-three q w r (swapped w r a v) ∙ rw (up, high h w small, mid, end)
+    let end : highFirst r (replaced w r a v) ≡ highFirst r a = sym (high-low r (replaced w r a v)) ∙ ap (highFirst r) down ∙ high-low r a in
+    high-three q w r (replaced w r a v) ∙ rw (up, high h w small, mid, end)
 
 -- ---- the numbers as the code computes them
 
@@ -153,12 +215,12 @@ module _ {len s at w : ℕ} (here : Holds len s at w) where
   pub old-le : (a : ℕ) → oldPart s at w a ≤ a
   old-le a = rw (old-exact a) (middle-le w (over s at w) a)
 
-  as-code : (a v : ℕ) → v < 2 ^ w → newWord s at w a v ≡ swapped w (over s at w) a v
-  unfolding swapped
+  as-code : (a v : ℕ) → v < 2 ^ w → newWord s at w a v ≡ replaced w (over s at w) a v
+  unfolding replaced
   as-code a v small = ap₂ (λ (x y : ℕ). a - x + y) (old-exact a) (up-exact v small)
 
   pub new-fits : (a v : ℕ) → a < 2 ^ 64 → v < 2 ^ w → newWord s at w a v < 2 ^ 64
-  new-fits a v h small = rw (as-code a v small) (rw counted at (swapped-fits (at - 8 * s) w (over s at w) a v (rw counted h) small))
+  new-fits a v h small = rw (as-code a v small) (rw counted at (replaced-fits (at - 8 * s) w (over s at w) a v (rw counted h) small))
 
 -- ---- a field in the bytes
 
@@ -167,7 +229,7 @@ module _ (l : List ℕ) (bytes : (i : ℕ) → getD l i 0 < 256) (s at w : ℕ) 
   unfolding numberOf AllBytes wordOf
   word-bits =
       ap bitsOf (eight-at l s (here .fits))
-      ∙ number-bits _ refl (omega (arith, eight-bytes l bytes s))
+      ∙ number-bits _ refl (omega (arith, eight-small l bytes s))
       ∙ ap (highFirst 64) (omega arith)
 
   -- the bytes with the number z at place s, as bits
@@ -226,9 +288,9 @@ module _ (l : List ℕ) (bytes : (i : ℕ) → getD l i 0 < 256) (s at w : ℕ) 
   unfolding putField
   put-is v small {out} {a} ea e known =
       let m = wordOf l s / 2 ^ over s at w in
-      let z = swapped w (over s at w) (wordOf l s) v in
-      let put : out ≡ sets l s (bytesOfWord z) = e ∙ ap (λ (t : ℕ). sets l s (bytesOfWord t)) (as-code here a v small ∙ ap (λ (b : ℕ). swapped w (over s at w) b v) ea) in
-      let wrote : bitsOf out ≡ lead ++ highFirst w v ++ rest = ap bitsOf put ∙ put-around z ∙ parted z v (high-swapped (at - 8 * s) w (over s at w) (wordOf l s) v small) in
+      let z = replaced w (over s at w) (wordOf l s) v in
+      let put : out ≡ sets l s (bytesOfWord z) = e ∙ ap (λ (t : ℕ). sets l s (bytesOfWord t)) (as-code here a v small ∙ ap (λ (b : ℕ). replaced w (over s at w) b v) ea) in
+      let wrote : bitsOf out ≡ lead ++ highFirst w v ++ rest = ap bitsOf put ∙ put-around z ∙ parted z v (high-replaced (at - 8 * s) w (over s at w) (wordOf l s) v small) in
       let meant : spliced (bitsOf l) at w v ≡ lead ++ highFirst w v ++ rest =
       ap (λ (b : List ℕ). spliced b at w v) bits-parted ∙ spliced-middle lead (highFirst w m) rest at w v length-lead (length-highFirst w m) in
       sym (packed-bits out (all-bytes out known)) ∙ ap₂ packed (ap length put ∙ length-sets l s (bytesOfWord z)) (wrote ∙ sym meant)

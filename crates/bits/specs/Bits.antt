@@ -4,7 +4,7 @@ use Prim.Native.Nat.{ℕ, zero, suc, _+_, _*_, _/_, _%_, _^_}
 use mathlib.Core.Bool.{Bool, true}
 use mathlib.Core.List.{List, [], _∷_, _++_}
 use lib.Dec.{leb}
-use lib.ListN.{length, getD, take, drop}
+use lib.ListN.{getD, take, drop}
 use Rattle.laws.specs.Tests.{both}
 
 -- the low n bits of v, the lowest first
@@ -54,10 +54,6 @@ sentBits bs = joined (lowFirst 8) bs
 -- the n bytes that were sent so
 unfoldable pub bytesOf : ℕ → List ℕ → List ℕ
 bytesOf n bits = eights lowValue n bits
-
--- the whole bytes that these bits make; bits that make none are left out
-unfoldable pub bytesIn : List ℕ → List ℕ
-bytesIn bits = bytesOf (length bits / 8) bits
 
 -- the eight bytes of a number, the lowest first
 unfoldable pub eightOf : ℕ → List ℕ

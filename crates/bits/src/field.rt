@@ -4,37 +4,43 @@ ghost use mathlib.Core.Path.{_≡_};
 ghost use Prim.Native.Nat.{_+_, _*_, _%_, _^_, _≤_, _<_};
 ghost use lib.ListN.{length};
 ghost use lib.Seq.{sets};
+ghost use Rattle.bits.specs.Bits.{eightOf};
 ghost use Rattle.bits.specs.Field.{fieldOf, putField, wordOf, bytesOfWord, windowOf};
+use crate::four_at;
+use crate::store_eight;
 
-// The eight bytes from place s on as a number, the first one the highest. Summed by pairs a compiler makes one load of them.
+// The eight bytes of a number in the other order. A compiler knows it as one instruction.
+fn swapped(z: u64) -> u64
+    ensures { λ r. ⌜ r ≡ wordOf (eightOf z) 0 ⌝ }
+{
+    let a = (z % 256) << 56;
+    let b = ((z >> 8) % 256) << 48;
+    let c = ((z >> 16) % 256) << 40;
+    let d = ((z >> 24) % 256) << 32;
+    let e = ((z >> 32) % 256) << 24;
+    let f = ((z >> 40) % 256) << 16;
+    let g = ((z >> 48) % 256) << 8;
+    let h = z >> 56;
+    ((a + b) + (c + d)) + ((e + f) + (g + h))
+}
+
+// The eight bytes from place s on as a number, the first one the highest. They are loaded with the first one lowest, which a compiler makes one
+// load of early enough for all of this to go into its caller.
 fn word_at(bytes: &[u8], s: usize) -> u64
     requires { ⌜ s + 8 ≤ length (now bytes) ⌝ }
     ensures { λ r. ⌜ r ≡ wordOf (now (bytes .entry)) s ⌝ }
 {
-    let a = (bytes[s] as u64) << 56;
-    let b = (bytes[s + 1] as u64) << 48;
-    let c = (bytes[s + 2] as u64) << 40;
-    let d = (bytes[s + 3] as u64) << 32;
-    let e = (bytes[s + 4] as u64) << 24;
-    let f = (bytes[s + 5] as u64) << 16;
-    let g = (bytes[s + 6] as u64) << 8;
-    let h = bytes[s + 7] as u64;
-    ((a + b) + (c + d)) + ((e + f) + (g + h))
+    let low = four_at(bytes, s) as u64;
+    let high = four_at(bytes, s + 4) as u64;
+    swapped(low + (high << 32))
 }
 
-// The other way. A compiler makes one store of it.
+// The other way.
 fn put_word(out: &mut [u8], s: usize, z: u64)
     requires { ⌜ s + 8 ≤ length (now out) ⌝ }
     ensures { λ _. ⌜ now (out .exit) ≡ sets (now (out .entry)) s (bytesOfWord z) ⌝ }
 {
-    out[s] = ((z >> 56) % 256) as u8;
-    out[s + 1] = ((z >> 48) % 256) as u8;
-    out[s + 2] = ((z >> 40) % 256) as u8;
-    out[s + 3] = ((z >> 32) % 256) as u8;
-    out[s + 4] = ((z >> 24) % 256) as u8;
-    out[s + 5] = ((z >> 16) % 256) as u8;
-    out[s + 6] = ((z >> 8) % 256) as u8;
-    out[s + 7] = (z % 256) as u8;
+    store_eight(out, s, swapped(z));
 }
 
 // Where the eight bytes start that hold a field: with its first byte, or, near the end, eight bytes before the end.

@@ -22,9 +22,9 @@ pub list-room : (l : List ℕ) (room : ℕ) → room < 21 → Refused NoRoom ≡
 unfolding listAnswer
 list-room l room h = simp (lt-leb 21 room h)
 
-pub list-read : (l : List ℕ) (room : ℕ) → 21 ≤ room → {a x : Received} → a ≡ readAnswer l → a ≡ x → x ≡ listAnswer l room
+pub list-read : (l : List ℕ) (room : ℕ) → 21 ≤ room → {x : Received} → x ≡ readAnswer l → x ≡ listAnswer l room
 unfolding listAnswer
-list-read l room h e f = sym f ∙ e ∙ simp (le-leb 21 room h)
+list-read l room h e = e ∙ simp (le-leb 21 room h)
 
 pub listed : (l : List ℕ) (fields : List ℤ) (count : ℕ) (x : Received) → x ≡ listAnswer l (length fields) → {k n : ℕ} {o : List ℤ}
     → k ≡ receivedNumber x → o ≡ listOut x fields → n ≡ listCount x count → ReadsMessageC l fields count k o n

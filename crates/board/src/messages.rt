@@ -1,10 +1,10 @@
 // Messages: read into a list of numbers, and written of one.
 ghost use Rattle.board.specs.Messages.{ReadsMessageC, WritesMessageC};
-use listing::list;
 use listing::message_in;
-use message::Received;
+use listing::putting::list;
 use message::Written;
-use message::read;
+use message::reading::Head;
+use message::reading::head_of;
 use message::write;
 use numbers::Refusal;
 use numbers::number;
@@ -16,13 +16,13 @@ pub extern "C" fn qs_message_read(message: &[u8], fields: &mut [i32], count: &mu
     if fields.len() < 21 {
         return number(Refusal::NoRoom);
     }
-    let answer = read(message);
-    match answer {
-        Received::Message(m) => {
-            *count = list(m, fields);
+    let first = head_of(message);
+    match first {
+        Head::Known(h) => {
+            *count = list(message, h, fields);
             0
         }
-        Received::Refused(r) => number(r),
+        Head::Refused(r) => number(r),
     }
 }
 

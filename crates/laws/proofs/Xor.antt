@@ -1,21 +1,22 @@
--- Exclusive or of numbers of 16 bits, under a shut name, so that terms stay small and `_` is found.
+-- Exclusive or of numbers, under a shut name, so that terms stay small and `_` is found; and what is linear in it.
 -- Assumes nothing.
 use mathlib.Core.Path.{_≡_, refl, sym, ap, ap₂, _∙_}
-use Prim.Native.Nat.{ℕ, zero, suc, _+_, _*_, _/_, _%_, _^_, _<_}
+use Prim.Native.Nat.{ℕ, zero, suc, _+_, _-_, _*_, _/_, _%_, _^_, _<_}
 use native.Mathlib.Nat.{add-zero}
+use native.Mathlib.Decide.{decLt}
 use native.Mathlib.Omega.{arith}
+use lib.Dec.{T, eqb}
 use lib.Bits.{bitXor, differ, xor-step, xor-zero-r, xor-comm, xor-self, xor-lt, xor-block, xor-shr, xor-mod, xor-shifted}
+use borrow.Author.Tests.{eqb-true}
+use Rattle.laws.proofs.Tests.{is-true}
+use Rattle.laws.proofs.Table.{allBelow, below}
 
 unfoldable pub xor : ℕ → ℕ → ℕ
 xor a b = bitXor a b
 
-pub xor-16 : (a b : ℕ) → a < 65536 → b < 65536 → xor a b < 65536
+pub fits : (k a b : ℕ) → a < 2 ^ k → b < 2 ^ k → xor a b < 2 ^ k
 unfolding xor
-xor-16 a b ha hb = xor-lt 16 a b ha hb
-
-pub xor-8 : (a b : ℕ) → a < 256 → b < 256 → xor a b < 256
-unfolding xor
-xor-8 a b ha hb = xor-lt 8 a b ha hb
+fits k a b ha hb = xor-lt k a b ha hb
 
 pub comm : (a b : ℕ) → xor a b ≡ xor b a
 unfolding xor
@@ -25,7 +26,10 @@ pub zero-r : (a : ℕ) → xor a 0 ≡ a
 unfolding xor
 zero-r a = xor-zero-r a
 
-pub self : (a : ℕ) → xor a a ≡ 0
+pub zero-l : (a : ℕ) → xor 0 a ≡ a
+zero-l a = comm 0 a ∙ zero-r a
+
+self : (a : ℕ) → xor a a ≡ 0
 unfolding xor
 self a = xor-self a
 
@@ -57,30 +61,67 @@ xor-assoc (suc k) a b c ha hb hc =
     ∙ ap₂ (λ (x y : ℕ). x * 2 + y) (xor-assoc k (a / 2) (b / 2) (c / 2) (omega arith) (omega arith) (omega arith)) (differ-assoc (a % 2) (b % 2) (c % 2) (omega arith) (omega arith) (omega arith))
     ∙ sym (xor-step a (bitXor b c) ∙ ap₂ (λ (x y : ℕ). bitXor (a / 2) x * 2 + differ (a % 2) y) (xor-shr b c 1) (xor-mod b c 1))
 
-pub assoc : (a b c : ℕ) → a < 65536 → b < 65536 → c < 65536 → xor (xor a b) c ≡ xor a (xor b c)
-unfolding xor
-assoc a b c ha hb hc = xor-assoc 16 a b c ha hb hc
+below-power : (n : ℕ) → n < 2 ^ n
+below-power zero = omega arith
+below-power (suc n) = omega (arith, below-power n)
 
-pub swap : (a b c d : ℕ) → a < 65536 → b < 65536 → c < 65536 → d < 65536 → xor (xor a b) (xor c d) ≡ xor (xor a c) (xor b d)
-swap a b c d ha hb hc hd =
-    assoc a b (xor c d) ha hb (xor-16 c d hc hd)
-    ∙ ap (xor a) (sym (assoc b c d hb hc hd) ∙ ap (λ (x : ℕ). xor x d) (comm b c) ∙ assoc c b d hc hb hd)
-    ∙ sym (assoc a c (xor b d) ha hc (xor-16 b d hb hd))
-
-pub double : (a c : ℕ) → xor a c * 2 % 65536 ≡ xor (a * 2 % 65536) (c * 2 % 65536)
+assoc : (a b c : ℕ) → xor (xor a b) c ≡ xor a (xor b c)
 unfolding xor
-double a c =
-    let e = xor-block 1 a c 0 0 (omega arith) (omega arith) in
-    let z : bitXor a c * 2 ≡ bitXor (a * 2) (c * 2) = sym (rw (add-zero (a * 2), add-zero (c * 2), add-zero (bitXor a c * 2)) at e) in
-    ap (λ (x : ℕ). x % 65536) z ∙ xor-mod (a * 2) (c * 2) 16
+assoc a b c =
+    let h = below-power (a + b + c) in
+    xor-assoc (a + b + c) a b c (omega arith) (omega arith) (omega arith)
 
--- a number by its two bytes
-pub parts : (r : ℕ) → r ≡ xor (r / 256 * 256) (r % 256)
-unfolding xor
-parts r = sym (xor-shifted (r / 256) 8 (r % 256) (omega arith) ∙ omega arith)
+pub swap : (a b c d : ℕ) → xor (xor a b) (xor c d) ≡ xor (xor a c) (xor b d)
+swap a b c d =
+    assoc a b (xor c d) ∙ ap (xor a) (sym (assoc b c d) ∙ ap (λ (x : ℕ). xor x d) (comm b c) ∙ assoc c b d) ∙ sym (assoc a c (xor b d))
 
-pub block : (h t : ℕ) → xor (h * 256) (t * 256) ≡ xor h t * 256
+-- ---- linear
+
+pub record Linear (f : ℕ → ℕ) : Type 0 where
+  pub law : (a b : ℕ) → f (xor a b) ≡ xor (f a) (f b)
+
+-- k places up, and w places are kept
+pub up-linear : (w k : ℕ) → Linear (λ x. x * 2 ^ k % 2 ^ w)
 unfolding xor
-block h t =
-    let e = xor-block 8 h t 0 0 (omega arith) (omega arith) in
-    rw (add-zero (h * 256), add-zero (t * 256), add-zero (bitXor h t * 256)) at e
+up-linear w k = record { law = law }
+  where
+    law : (a b : ℕ) → bitXor a b * 2 ^ k % 2 ^ w ≡ bitXor (a * 2 ^ k % 2 ^ w) (b * 2 ^ k % 2 ^ w)
+    law a b =
+        let h = below-power k in
+        let e = xor-block k a b 0 0 (omega arith) (omega arith) in
+        let z : bitXor (a * 2 ^ k) (b * 2 ^ k) ≡ bitXor a b * 2 ^ k = rw (add-zero (a * 2 ^ k), add-zero (b * 2 ^ k), add-zero (bitXor a b * 2 ^ k)) at e in
+        ap (λ (x : ℕ). x % 2 ^ w) (sym z) ∙ xor-mod (a * 2 ^ k) (b * 2 ^ k) w
+
+pub down-linear : (k : ℕ) → Linear (λ x. x / 2 ^ k)
+unfolding xor
+down-linear k = record { law = λ a b. xor-shr a b k }
+
+pub same-linear : Linear (λ x. x)
+same-linear = record { law = λ a b. refl }
+
+pub sum-linear : {f g : ℕ → ℕ} → Linear f → Linear g → Linear (λ x. xor (f x) (g x))
+sum-linear {f} {g} F G = record { law = λ a b. ap₂ xor (F .law a b) (G .law a b) ∙ swap (f a) (f b) (g a) (g b) }
+
+pub then-linear : {f g : ℕ → ℕ} → Linear f → Linear g → Linear (λ x. g (f x))
+then-linear {f} {g} F G = record { law = λ a b. ap g (F .law a b) ∙ G .law (f a) (f b) }
+
+-- two that agree at each single bit agree: one computed test
+module _ {f g : ℕ → ℕ} (F : Linear f) (G : Linear g) where
+  at-zero : f 0 ≡ g 0
+  at-zero = ap f (sym (self 0)) ∙ F .law 0 0 ∙ self (f 0) ∙ sym (ap g (sym (self 0)) ∙ G .law 0 0 ∙ self (g 0))
+
+  one-more : (n x : ℕ) → f (2 ^ n) ≡ g (2 ^ n) → ((y : ℕ) → y < 2 ^ n → f y ≡ g y) → x < 2 ^ suc n → Dec (x < 2 ^ n) → f x ≡ g x
+  unfolding xor
+  one-more n x e h l (yes m) = h x m
+  one-more n x e h l (no m) =
+      let y = x - 2 ^ n in
+      let o : 2 ^ n ≡ 1 * 2 ^ n = omega arith in
+      let s : x ≡ xor (2 ^ n) y = sym (ap (λ (z : ℕ). xor z y) o ∙ xor-shifted 1 n y (omega arith) ∙ omega arith) in
+      ap f s ∙ F .law (2 ^ n) y ∙ ap₂ xor e (h y (omega arith)) ∙ sym (ap g s ∙ G .law (2 ^ n) y)
+
+  all-agree : (n : ℕ) → ((i : ℕ) → i < n → f (2 ^ i) ≡ g (2 ^ i)) → (x : ℕ) → x < 2 ^ n → f x ≡ g x
+  all-agree zero h x l = let e : x ≡ 0 = omega arith in ap f e ∙ at-zero ∙ sym (ap g e)
+  all-agree (suc n) h x l = one-more n x (h n (omega arith)) (all-agree n (λ i m. h i (omega arith))) l (decLt x (2 ^ n))
+
+  pub agree : (n : ℕ) → T (allBelow (λ i. eqb (f (2 ^ i)) (g (2 ^ i))) n) → (x : ℕ) → x < 2 ^ n → f x ≡ g x
+  agree n t = all-agree n (λ i m. eqb-true _ _ (is-true (below (λ j. eqb (f (2 ^ j)) (g (2 ^ j))) n t i m)))

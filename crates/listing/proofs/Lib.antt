@@ -2,3 +2,4 @@ pub mod Back
 pub mod Fits
 pub mod Said
 pub mod Stored
+pub mod Straight

@@ -1,11 +1,13 @@
 -- A message as a list of numbers: its fields in the order of document 01, then the state taken apart.
 -- Assumes nothing.
 use Prim.Native.Nat.{ℕ, _+_, _-_, _/_, _%_}
+use mathlib.Core.Path.{_≡_}
 use mathlib.Core.List.{List, [], _∷_, _++_}
 use lib.IntN.{ℤ, pos, negsuc}
 use lib.Dec.{eqb, leb}
-use lib.ListN.{getD}
+use lib.ListN.{getD, length}
 use Rattle.laws.specs.Tests.{pick}
+use Rattle.laws.specs.Lists.{over}
 use Rattle.message.specs.State.{timeOutOf}
 use Rattle.message.specs.declared.Report.{Report}
 use Rattle.message.specs.declared.Base.{Base}
@@ -51,6 +53,10 @@ numbersOf (Two r s) = reportNumbers 2 r ++ organisedNumbers s
 numbersOf (Three r s) = reportNumbers 3 r ++ incrementalNumbers s
 numbersOf (Four b s) = baseNumbers b ++ organisedNumbers s
 numbersOf Other = []
+
+-- a lent list after the numbers of a message have been put there, and how many they are
+abbrev pub Lists : Message → List ℤ → ℕ → List ℤ → Type 0
+Lists m out r out′ = (r ≡ length (numbersOf m)) × (out′ ≡ over (numbersOf m) out)
 
 -- ---- the message that a list of 21 numbers says; those that its message does not have are not looked at
 

@@ -5,49 +5,15 @@ pub mod getting;
 pub mod putting;
 
 ghost use mathlib.Core.Path.{_≡_};
-ghost use mathlib.Core.Bool.{true};
 ghost use Prim.Native.Nat.{_≤_};
 ghost use lib.ListN.{length};
-ghost use Rattle.laws.specs.Lists.{over};
-ghost use Rattle.bits.specs.Row.{allFit};
-ghost use Rattle.message.specs.Message.{rowOf};
-ghost use Rattle.listing.specs.Listing.{numbersOf, messageIn};
+ghost use Rattle.listing.specs.Listing.{messageIn};
 use getting::base_in;
 use getting::incremental_in;
 use getting::organised_in;
 use getting::plain_at;
 use getting::report_in;
 use message::Message;
-use putting::put_base;
-use putting::put_incremental;
-use putting::put_organised;
-use putting::put_report;
-
-// The numbers of a message in the first places of out: how many.
-pub fn list(message: Message, out: &mut [i32]) -> u32
-    requires { ⌜ (21 ≤ length (now out)) × (allFit (rowOf message) ≡ true) ⌝ }
-    ensures { λ r. ⌜ (r ≡ length (numbersOf message)) × (now (out .exit) ≡ over (numbersOf message) (now (out .entry))) ⌝ }
-{
-    match message {
-        Message::One(r, s) => {
-            put_report(1, r, out);
-            put_organised(s, out, 15)
-        }
-        Message::Two(r, s) => {
-            put_report(2, r, out);
-            put_organised(s, out, 15)
-        }
-        Message::Three(r, s) => {
-            put_report(3, r, out);
-            put_incremental(s, out)
-        }
-        Message::Four(b, s) => {
-            put_base(b, out);
-            put_organised(s, out, 16)
-        }
-        Message::Other => 0,
-    }
-}
 
 // The message that a list of numbers says.
 pub fn message_in(list: &[i32]) -> Message

@@ -1,10 +1,10 @@
 -- Two's complement: the number and its bits go back and forth; and what `signed` and `unsigned` compute.
 -- Assumes nothing.
-use mathlib.Core.Path.{_≡_, refl, sym, ap, _∙_, subst}
+use mathlib.Core.Path.{_≡_, refl, sym, ap, _∙_}
 use mathlib.Core.Bool.{true, false}
 use Prim.Native.Nat.{ℕ, zero, suc, _-_, _*_, _%_, _^_, _≤_, _<_}
 use native.Mathlib.Decide.{decLt}
-use native.Mathlib.Nat.{one-mul, pow-suc, zero-add}
+use native.Mathlib.Nat.{one-mul, pow-suc}
 use native.Mathlib.Numerals.{sub-one}
 use native.Mathlib.Omega.{arith}
 use borrow.Author.Tests.{lt-ltb, le-ltb, ltb-true}
@@ -15,6 +15,7 @@ use lib.Signed.{mag, ltZ, nonNeg, pos-natAbs}
 use mir.Facts.{fits-natAbs, toZ-ofZ, toZ-pos}
 use mir.Syntax.{w32}
 use mir.Val.{Fits, SFits, toZ, ofZ}
+use Rattle.laws.proofs.Signs.{under, plain-nonneg}
 use Rattle.message.specs.Signs.{signedOf, unsignedOf}
 
 twice : (w : ℕ) → 1 ≤ w → 2 ^ w ≡ 2 ^ (w - 1) * 2
@@ -102,10 +103,6 @@ full-some w h = rw (shifted w h) (pow-pos w)
 -- ---- what `signed` computes
 
 -- -1 - n
-under : (n : ℕ) → negsuc 0 -ℤ pos n ≡ negsuc n
-under zero = refl
-under (suc n) = rw (zero-add n)
-
 module _ (w v : ℕ) (here : (1 ≤ w) × (w < 32) × (v < 2 ^ w)) where
   half-is : 1 * 2 ^ (w - 1) % 2 ^ 32 ≡ 2 ^ (w - 1)
   half-is = shifted (w - 1) (omega (arith, here .1))
@@ -144,10 +141,6 @@ negsuc-mag : (z : ℤ) → ltZ z (pos 0) ≡ true → negsuc (mag z) ≡ z
 negsuc-mag (pos n) e = absurd (omega (arith, ltb-true n 0 e))
 negsuc-mag (negsuc n) e = refl
 
-not-below : (z : ℤ) → ltZ z (pos 0) ≡ false → T (nonNeg z)
-not-below (pos n) e = tt
-not-below (negsuc n) e = subst T e tt
-
 module _ (x : ℤ) (f : SFits w32 x) where
   module _ (e : ltZ (toZ w32 (ofZ w32 x)) (pos 0) ≡ true) where
     below : ltZ x (pos 0) ≡ true
@@ -170,7 +163,7 @@ module _ (x : ℤ) (f : SFits w32 x) where
 
   module _ (e : ltZ (toZ w32 (ofZ w32 x)) (pos 0) ≡ false) where
     some : T (nonNeg (toZ w32 (ofZ w32 x)))
-    some = not-below (toZ w32 (ofZ w32 x)) e
+    some = plain-nonneg (toZ w32 (ofZ w32 x)) e
 
     pub pos-fits : T (nonNeg (toZ w32 (ofZ w32 x))) × Fits w32 (natAbs (toZ w32 (ofZ w32 x)))
     pos-fits = (some, rw (toZ-ofZ f) (fits-natAbs {w = w32} {z = x} tt f))

@@ -13,8 +13,8 @@ use lib.Dec.{eqb}
 use lib.IntN.{ℤ}
 use lib.Signed.{mag}
 use lib.ListN.{length}
-use Rattle.laws.specs.Tests.{pick}
-use Rattle.laws.proofs.Tests.{between-yes, between-low, between-high, both-no}
+use Rattle.laws.specs.Tests.{pick, between}
+use Rattle.laws.proofs.Tests.{between-low, between-high, both-no}
 use Rattle.numbers.specs.declared.Refusal.the-variants.{MessageLength, UnknownId}
 use Rattle.bits.specs.Field.{fieldOf}
 use Rattle.bits.proofs.Fields.{field-bound}
@@ -133,19 +133,19 @@ module _ (l : List ℕ) (id : ℕ) (e : id ≡ idIn l) where
 
 -- ---- reading
 
-pub read-length : (l : List ℕ) → (length l ≡ 21 → ⊥) → Refused MessageLength ≡ readAnswer l
+pub read-length : (l : List ℕ) → (length l ≡ 21 → ⊥) → readAnswer l ≡ Refused MessageLength
 unfolding readAnswer
 read-length l n = simp (ne-eqb (length l) 21 n)
 
 module _ (l : List ℕ) (e : length l ≡ 21) where
-  pub read-low : idIn l < 1 → Refused UnknownId ≡ readAnswer l
+  pub read-low : idIn l < 1 → readAnswer l ≡ Refused UnknownId
   unfolding readAnswer
   read-low h = simp (eq-eqb (length l) 21 e, between-low 1 4 (idIn l) h)
 
-  pub read-high : 4 < idIn l → Refused UnknownId ≡ readAnswer l
+  pub read-high : 4 < idIn l → readAnswer l ≡ Refused UnknownId
   unfolding readAnswer
   read-high h = simp (eq-eqb (length l) 21 e, between-high 1 4 (idIn l) h)
 
-  pub read-good : 1 ≤ idIn l → idIn l ≤ 4 → Got (messageOf l) ≡ readAnswer l
+  pub read-good : between 1 4 (idIn l) ≡ true → Got (messageOf l) ≡ readAnswer l
   unfolding readAnswer
-  read-good h k = simp (eq-eqb (length l) 21 e, between-yes 1 4 (idIn l) h k)
+  read-good h = simp (eq-eqb (length l) 21 e, h)

@@ -1,4 +1,4 @@
--- Reading what was written gives the message back, and what reading accepts is what writing makes of its message.
+-- Reading what was written gives the message back, what reading accepts is what writing makes of its message, and what was read has its widths.
 -- Assumes nothing.
 use mathlib.Core.Path.{_≡_, refl, sym, ap, ap₂, subst, _∙_}
 use mathlib.Core.Bool.{true}
@@ -151,6 +151,10 @@ module _ (l : List ℕ) where
 Stands : List ℕ → ℕ → List (ℕ × ℕ) → Type 0
 Stands l at fs = (ws : List ℕ) × (fs ≡ rowAt ws at l)
 
+stands-fit : (l : List ℕ) (at : ℕ) (fs : List (ℕ × ℕ)) → Stands l at fs → allFit fs ≡ true
+unfolding Stands
+stands-fit l at fs s = ap allFit (s .1) ∙ row-fits (s .0) at l
+
 module _ (l : List ℕ) where
   signed-again : (at w : ℕ) → 1 ≤ w → unsignedOf w (signedOf w (fieldOf l at w)) ≡ fieldOf l at w
   signed-again at w h = unsigned-signed w (fieldOf l at w) h (field-bound l at w)
@@ -190,6 +194,18 @@ module _ (l : List ℕ) where
   unfolding Stands rowAt incrementalOf
   incremental-again = (2 ∷ 13 ∷ 3 ∷ 1 ∷ [], refl)
 
+  -- so each part of what was read has its widths
+  pub report-fits : (id : ℕ) → idIn l ≡ id → allFit (reportRow id (reportOf l)) ≡ true
+  unfolding Stands rowAt
+  report-fits id e = stands-fit l 0 _ (report-again id [] e ([], refl))
+
+  pub base-fits : idIn l ≡ 4 → allFit (baseRow (baseOf l)) ≡ true
+  unfolding Stands rowAt
+  base-fits e = stands-fit l 0 _ (base-again [] e ([], refl))
+
+  pub incremental-fits : allFit (incrementalRow (incrementalOf l)) ≡ true
+  incremental-fits = stands-fit l 149 _ incremental-again
+
 -- ---- the message of an id
 
 abbrev messageAt : List ℕ → ℕ → Message
@@ -210,8 +226,7 @@ module _ (m : Message) (k : known m ≡ true) (fit : allFit (rowOf m) ≡ true) 
   unfolding bytesOf packed messageOf
   read-as id h e =
       let l = bytesOf m in
-      let b = between-is 1 4 id h in
-      sym (read-good l (length-eights (highValue 0) 21 (laid (rowOf m))) (omega arith) (omega arith)) ∙ ap (λ (n : ℕ). Got (messageAt l n)) e
+      sym (read-good l (length-eights (highValue 0) 21 (laid (rowOf m))) (subst (λ n. between 1 4 n ≡ true) (sym e) h)) ∙ ap (λ (n : ℕ). Got (messageAt l n)) e
 
 message-back : (m : Message) → known m ≡ true → allFit (rowOf m) ≡ true → readAnswer (bytesOf m) ≡ Got m
 unfolding organisedMessage
@@ -240,18 +255,13 @@ message-again l (suc (suc (suc zero))) e h k = (refl, report-again l 3 _ e (incr
 message-again l (suc (suc (suc (suc zero)))) e h k = (refl, base-again l _ e (organised-again l))
 message-again l (suc (suc (suc (suc (suc n))))) e h k = absurd (omega arith)
 
-module _ (l : List ℕ) (m : Message) (n : length l ≡ 21) (k : known m ≡ true) (s : Stands l 0 (rowOf m)) where
-  fit-again : allFit (rowOf m) ≡ true
-  unfolding Stands
-  fit-again = ap allFit (s .1) ∙ row-fits (s .0) 0 l
-
-  bytes-again : AllBytes l → bytesOf m ≡ l
-  unfolding Stands bytesOf
-  bytes-again bytes =
-      let w : widthOf (rowAt (s .0) 0 l) ≡ 168 = ap widthOf (sym (s .1)) ∙ row-width m k in
-      let bits : laid (rowOf m) ≡ bitsOf l =
-      ap laid (s .1) ∙ laid-row (s .0) 0 l (omega arith) ∙ take-all (widthOf (rowAt (s .0) 0 l)) (bitsOf l) (omega (arith, length-bits l)) in
-      ap₂ packed (sym n) bits ∙ packed-bits l bytes
+bytes-again : (l : List ℕ) (m : Message) → length l ≡ 21 → known m ≡ true → Stands l 0 (rowOf m) → AllBytes l → bytesOf m ≡ l
+unfolding Stands bytesOf
+bytes-again l m n k s bytes =
+    let w : widthOf (rowAt (s .0) 0 l) ≡ 168 = ap widthOf (sym (s .1)) ∙ row-width m k in
+    let bits : laid (rowOf m) ≡ bitsOf l =
+    ap laid (s .1) ∙ laid-row (s .0) 0 l (omega arith) ∙ take-all (widthOf (rowAt (s .0) 0 l)) (bitsOf l) (omega (arith, length-bits l)) in
+    ap₂ packed (sym n) bits ∙ packed-bits l bytes
 
 -- what an accepted message says stands in the bytes
 stands-again : (l : List ℕ) (m : Message) → readAnswer l ≡ Got m → (length l ≡ 21) × (known m ≡ true) × Stands l 0 (rowOf m)
@@ -260,14 +270,10 @@ stands-again l m e =
     let t = read-exactly l .given-0 .0 (ap receivedNumber e) in
     let n = eqb-true (length l) 21 (t .0) in
     let b = between-is 1 4 (idIn l) (t .1) in
-    let got = read-good l n (b .0) (b .1) ∙ e in
+    let got = read-good l n (t .1) ∙ e in
     let is : messageOf l ≡ m = cc in
     let a = rw is at (message-again l (idIn l) refl (b .0) (b .1)) in
     (n, a .0, a .1)
-
--- a message that was read can be written
-pub read-fits : (l : List ℕ) (m : Message) → readAnswer l ≡ Got m → allFit (rowOf m) ≡ true
-read-fits l m e = let a = stands-again l m e in fit-again l m (a .0) (a .1) (a .2)
 
 -- ---- the promises
 
@@ -280,7 +286,7 @@ pub write-after-read : WriteAfterRead
 unfolding writeAnswer writeOut
 write-after-read l m bytes e out h =
     let a = stands-again l m e in
-    (simp (le-leb 21 (length out) h, a .1, read-fits l m e), ap (λ (x : List ℕ). over x out) (sym (bytes-again l m (a .0) (a .1) (a .2) bytes)))
+    (simp (le-leb 21 (length out) h, a .1, stands-fit l 0 (rowOf m) (a .2)), ap (λ (x : List ℕ). over x out) (sym (bytes-again l m (a .0) (a .1) (a .2) bytes)))
 
 pub read-once : ReadOnce
 read-once l r r′ h k = h ∙ sym k

@@ -16,7 +16,7 @@ use lib.Signed.{mag}
 use lib.ListN.{length, getD}
 use Rattle.laws.specs.Tests.{both, pick}
 use Rattle.laws.specs.Lists.{over}
-use Rattle.laws.proofs.Tests.{was-false, was-true}
+use Rattle.laws.proofs.Tests.{both-yes, was-false, was-true}
 use Rattle.laws.proofs.Lists.{all-bytes}
 use Rattle.numbers.specs.declared.Refusal.the-variants.{NoRoom, UnknownId, TooWide}
 use Rattle.bits.specs.Bits.{highFirst}
@@ -44,10 +44,6 @@ use Rattle.message.specs.declared.Written.the-variants.{Done, Refused as
 
 -- ---- two rows, one after the other
 
-both-true : (a : Bool) → both a true ≡ a
-both-true true = refl
-both-true false = refl
-
 module _ (fs gs : List (ℕ × ℕ)) where
   pub fit-no : {t : Bool} → t ≡ allFit fs → not t ≡ true → false ≡ allFit (fs ++ gs)
   fit-no e n = sym (fit-append fs gs ∙ ap (λ (b : Bool). both b (allFit gs)) (sym e ∙ was-false n))
@@ -63,7 +59,7 @@ module _ (fs gs : List (ℕ × ℕ)) where
 -- a field of width 0 says nothing
 nothing-fit : (fs : List (ℕ × ℕ)) → allFit (fs ++ ((0, 0) ∷ [])) ≡ allFit fs
 unfolding allFit
-nothing-fit fs = fit-append fs ((0, 0) ∷ []) ∙ both-true (allFit fs)
+nothing-fit fs = fit-append fs ((0, 0) ∷ []) ∙ both-yes (allFit fs)
 
 nothing-laid : (fs : List (ℕ × ℕ)) → laid (fs ++ ((0, 0) ∷ [])) ≡ laid fs
 unfolding laid highFirst
@@ -119,7 +115,7 @@ clockFour c = record { a = c .hour; b = c .minute; c = c .unused; d = 0 }
 module _ (c : Clock) where
   clock-test : both (leb (c .hour) 31) (both (leb (c .minute) 127) (leb (c .unused) 3)) ≡ allFit (subRow (Time c))
   unfolding allFit
-  clock-test = sym (ap₂ both (leb·suc-suc (c .hour) 31) (ap₂ both (leb·suc-suc (c .minute) 127) (both-true (ltb (c .unused) 4) ∙ leb·suc-suc (c .unused) 3)))
+  clock-test = sym (ap₂ both (leb·suc-suc (c .hour) 31) (ap₂ both (leb·suc-suc (c .minute) 127) (both-yes (ltb (c .unused) 4) ∙ leb·suc-suc (c .unused) 3)))
 
   clock-wide : allFit (subRow (Time c)) ≡ false → clockValue c ≡ 16384
   unfolding clockValue
@@ -135,7 +131,7 @@ module _ (c : Clock) where
 
   clock-fit : (b : Bool) → allFit (subRow (Time c)) ≡ b → allFit ((14, clockValue c) ∷ []) ≡ b
   unfolding allFit
-  clock-fit true e = both-true (ltb (clockValue c) 16384) ∙ lt-ltb (clockValue c) 16384 (rw (clock-joined e) (four-fits (clockFour c) 5 7 2 0 (clock-four e)))
+  clock-fit true e = both-yes (ltb (clockValue c) 16384) ∙ lt-ltb (clockValue c) 16384 (rw (clock-joined e) (four-fits (clockFour c) 5 7 2 0 (clock-four e)))
   clock-fit false e = ap (λ (v : ℕ). allFit ((14, v) ∷ [])) (clock-wide e)
 
   clock-laid : allFit (subRow (Time c)) ≡ true → laid ((14, clockValue c) ∷ []) ≡ laid (subRow (Time c))

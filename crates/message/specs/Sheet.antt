@@ -5,13 +5,14 @@ use mathlib.Core.Path.{_≡_}
 use mathlib.Core.Bool.{Bool, true, false}
 use mathlib.Core.List.{List, _++_}
 use lib.Dec.{leb}
-use Rattle.laws.specs.Tests.{both, pick}
+use lib.ListN.{length}
+use Rattle.laws.specs.Tests.{both, pick, between}
 use Rattle.bits.specs.Field.{fieldOf}
 use Rattle.bits.specs.Row.{fourRow}
 use Rattle.bits.specs.declared.reader.Four.{Four}
 use Rattle.message.specs.Signs.{unsignedOf}
 use Rattle.message.specs.State.{organisedOf, incrementalOf, timeOutOf}
-use Rattle.message.specs.Message.{idIn}
+use Rattle.message.specs.Message.{idIn, readAnswer}
 use Rattle.message.specs.declared.Report.{Report}
 use Rattle.message.specs.declared.Base.{Base}
 use Rattle.message.specs.declared.Message.{Message}
@@ -23,6 +24,9 @@ use Rattle.message.specs.declared.state.SelfOrganised.{SelfOrganised}
 use Rattle.message.specs.declared.state.Incremental.{Incremental}
 use Rattle.message.specs.declared.state.State.{State}
 use Rattle.message.specs.declared.state.State.the-variants.{SelfOrganised as Organised, Incremental as Increasing}
+use Rattle.message.specs.declared.Received.the-variants.{Refused}
+use Rattle.message.specs.declared.reading.Head.{Head}
+use Rattle.message.specs.declared.reading.Head.the-variants.{Known as Begun, Refused as NoHead}
 use Rattle.message.specs.declared.writing.Rows.{Rows}
 use Rattle.message.specs.declared.writing.Sheet.{Sheet}
 use Rattle.message.specs.declared.writing.Sheet.the-variants.{Known, Unknown}
@@ -32,6 +36,11 @@ use Rattle.message.specs.declared.writing.Sheet.the-variants.{Known, Unk
 -- id, repeat, source and status
 abbrev pub HeadOf : List ℕ → Four → Type 0
 HeadOf l f = (f .a ≡ idIn l) × (f .b ≡ fieldOf l 6 2) × (f .c ≡ fieldOf l 8 30) × (f .d ≡ fieldOf l 38 4)
+
+-- what `head_of` gives: the first fields of a message that can be read, or what reading gives
+abbrev pub Heads : List ℕ → Head → Type 0
+Heads l (Begun f) = (length l ≡ 21) × (between 1 4 (idIn l) ≡ true) × HeadOf l f
+Heads l (NoHead r) = readAnswer l ≡ Refused r
 
 -- a state that stands in these bytes
 abbrev pub StandsIn : List ℕ → State → Type 0

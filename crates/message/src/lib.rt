@@ -9,7 +9,8 @@ pub mod writing;
 ghost use mathlib.Core.Path.{_≡_};
 ghost use Rattle.message.specs.Message.{readAnswer, Writes};
 use numbers::Refusal;
-use reading::head_in;
+use reading::Head;
+use reading::head_of;
 use reading::message_in;
 use state::Incremental;
 use state::SelfOrganised;
@@ -78,18 +79,11 @@ pub enum Written {
 pub fn read(bytes: &[u8]) -> Received
     ensures { λ r. ⌜ r ≡ readAnswer (now (bytes .entry)) ⌝ }
 {
-    if bytes.len() != 21 {
-        return Received::Refused(Refusal::MessageLength);
+    let first = head_of(bytes);
+    match first {
+        Head::Known(h) => Received::Message(message_in(bytes, h)),
+        Head::Refused(r) => Received::Refused(r),
     }
-    let head = head_in(bytes);
-    let id = head.a;
-    if id < 1 {
-        return Received::Refused(Refusal::UnknownId);
-    }
-    if id > 4 {
-        return Received::Refused(Refusal::UnknownId);
-    }
-    Received::Message(message_in(bytes, head))
 }
 
 // The 21 bytes of a message in the first places of out: 12, 18, 19.

@@ -1,8 +1,8 @@
-// A message from its 21 bytes. Promise: it is `messageOf` the bytes (specs/Message.antt).
+// A message from its 21 bytes: what it begins with, its parts, and the whole. Promise: it is `messageOf` the bytes (specs/Message.antt).
 ghost use mathlib.Core.Path.{_≡_};
 ghost use lib.ListN.{length};
 ghost use Rattle.message.specs.Message.{reportOf, baseOf, messageOf, organisedMessage};
-ghost use Rattle.message.specs.Sheet.{HeadOf, StandsIn};
+ghost use Rattle.message.specs.Sheet.{HeadOf, Heads, StandsIn};
 use crate::Base;
 use crate::Message;
 use crate::Report;
@@ -12,16 +12,40 @@ use crate::state::organised_of;
 use crate::state::state_in;
 use bits::reader::Four;
 use bits::reader::take_four;
+use numbers::Refusal;
 
-// Id, repeat, source and, in messages 1 to 3, status.
-pub fn head_in(bytes: &[u8]) -> Four
+// Id, repeat, source and, in messages 1 to 3, status; or why there is no message.
+pub enum Head {
+    Known(Four),
+    Refused(Refusal),
+}
+
+fn head_in(bytes: &[u8]) -> Four
     requires { ⌜ length (now bytes) ≡ 21 ⌝ }
     ensures { λ r. ⌜ HeadOf (now (bytes .entry)) r ⌝ }
 {
     take_four(bytes, 0, 6, 2, 30, 4)
 }
 
-fn report_in(bytes: &[u8], head: Four) -> Report
+// What a message begins with: 17, 18.
+pub fn head_of(bytes: &[u8]) -> Head
+    ensures { λ r. ⌜ Heads (now (bytes .entry)) r ⌝ }
+{
+    if bytes.len() != 21 {
+        return Head::Refused(Refusal::MessageLength);
+    }
+    let first = head_in(bytes);
+    let id = first.a;
+    if id < 1 {
+        return Head::Refused(Refusal::UnknownId);
+    }
+    if id > 4 {
+        return Head::Refused(Refusal::UnknownId);
+    }
+    Head::Known(first)
+}
+
+pub fn report_in(bytes: &[u8], head: Four) -> Report
     requires { ⌜ (length (now bytes) ≡ 21) × HeadOf (now bytes) head ⌝ }
     ensures { λ r. ⌜ r ≡ reportOf (now (bytes .entry)) ⌝ }
 {
@@ -49,7 +73,7 @@ fn report_in(bytes: &[u8], head: Four) -> Report
     }
 }
 
-fn base_in(bytes: &[u8]) -> Base
+pub fn base_in(bytes: &[u8]) -> Base
     requires { ⌜ length (now bytes) ≡ 21 ⌝ }
     ensures { λ r. ⌜ r ≡ baseOf (now (bytes .entry)) ⌝ }
 {

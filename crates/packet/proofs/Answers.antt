@@ -10,7 +10,7 @@ use Rattle.laws.specs.Lists.{same}
 use Rattle.laws.proofs.Tests.{between-yes, between-low, between-high, both-no}
 use Rattle.numbers.specs.declared.Refusal.the-variants.{NotBits, BadLength, NoRoom, NoFlag, BadStuffing, NotWhole, BadCheck}
 use Rattle.bits.specs.Bits.{allBits}
-use Rattle.packet.specs.Stuff.{flag, legal}
+use Rattle.stuffing.specs.Stuff.{flag, legal}
 use Rattle.packet.specs.Packet.{packetOf, writeAnswer, bodyOf, flagged, frameIn, wholeBytes, checked, frameAnswer, bodyAnswer, readAnswer, payloadLength}
 use Rattle.packet.specs.declared.Written.the-variants.{Bits, Refused as NotWritten}
 use Rattle.packet.specs.declared.Received.the-variants.{Bytes, Refused}

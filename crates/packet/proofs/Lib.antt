@@ -1,12 +1,5 @@
-pub mod Register
-pub mod Checking
-pub mod Stuffing
-pub mod Marking
-pub mod Keeping
-pub mod Filling
-pub mod Sending
+pub mod Behind
 pub mod Building
-pub mod Takings
 pub mod Taken
 pub mod Answers
 pub mod Exactly

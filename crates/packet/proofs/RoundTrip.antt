@@ -17,13 +17,13 @@ use Rattle.laws.proofs.Unique.{unique}
 use Rattle.bits.specs.Bits.{allBits, highFirst, sentBits, bytesOf}
 use Rattle.bits.proofs.Bits.{allBits-more, allBits-append, allBits-take, allBits-drop, bit-head, bit-tail, high-bits}
 use Rattle.bits.proofs.Bytes.{sent-bits, length-sent, length-bytesOf, bytes-back, sent-back}
-use Rattle.packet.specs.Check.{checkOf}
-use Rattle.packet.specs.Stuff.{flag, stuffed, legal, unstuffed}
+use Rattle.checking.specs.Check.{checkOf}
+use Rattle.stuffing.specs.Stuff.{flag, stuffed, legal, unstuffed}
 use Rattle.packet.specs.Packet.{frameOf, packetOf, writtenNumber, writeAnswer, writeOut, receivedNumber, bodyOf, flagged, frameIn, wholeBytes, checked, payloadLength, frameAnswer, bodyAnswer, readAnswer, readOut}
 use Rattle.packet.specs.Promises.{ReadAfterWrite, WriteAfterRead, WriteOnce, ReadOnce}
 use Rattle.packet.specs.declared.Written.the-variants.{Bits}
 use Rattle.packet.specs.declared.Received.the-variants.{Bytes}
-use Rattle.packet.proofs.Stuffing.{stuffed-least, legal-stuffed, unstuffed-stuffed, stuffed-unstuffed, unstuffed-bits}
+use Rattle.stuffing.proofs.Stuffing.{stuffed-least, legal-stuffed, unstuffed-stuffed, stuffed-unstuffed, unstuffed-bits}
 use Rattle.packet.proofs.Building.{length-flag, length-frame, length-packet, packet-short}
 use Rattle.packet.proofs.Answers.{write-good, whole, check-good, stuffing-good, read-body}
 use Rattle.packet.proofs.Exactly.{write-exactly, read-exactly}

@@ -4,7 +4,7 @@ use mathlib.Core.Path.{_≡_, refl, sym, ap, ap₂, _∙_}
 use mathlib.Core.Bool.{Bool, true, false, not}
 use mathlib.Core.List.{List, [], _∷_, _++_, append-assoc, append-nil}
 use Prim.Native.Nat.{ℕ, zero, suc, _+_, _-_, _*_, _/_, _%_, _^_, _≤_, _<_}
-use native.Mathlib.Nat.{zero-add, suc-add}
+use native.Mathlib.Nat.{zero-add}
 use native.Mathlib.Omega.{arith}
 use lib.Dec.{T, eqb, ltb, leb·suc-suc, leb·zero}
 use lib.ListN.{length, take, drop, length-append, length-take, length-drop}
@@ -16,18 +16,15 @@ use Rattle.laws.proofs.Table.{allBelow, below}
 use Rattle.bits.specs.Bits.{lowFirst, lowValue, allBits, sentBits}
 use Rattle.bits.proofs.Bits.{allBits-take, allBits-drop, bits-back, length-lowFirst, low-append}
 use Rattle.bits.proofs.Bytes.{sentBits-end}
-use Rattle.packet.specs.Check.{zeros}
-use Rattle.packet.specs.Stuff.{legal, unstuffed}
+use Rattle.checking.specs.Check.{zeros}
+use Rattle.stuffing.specs.Stuff.{legal, unstuffed}
 use Rattle.packet.specs.Packet.{bodyOf}
-use Rattle.packet.specs.Taking.{leftIn, leftBy, Sound, pending, lawful, Took, Unstuffed}
-use Rattle.packet.specs.declared.unstuff.Taking.{Taking}
-use Rattle.packet.proofs.Sending.{low-cut}
-use Rattle.packet.proofs.Takings.{took-more}
-
-zeros-low : (n : ℕ) → lowFirst n 0 ≡ zeros n
-unfolding lowFirst zeros
-zeros-low zero = refl
-zeros-low (suc n) = ap (λ (t : List ℕ). 0 ∷ t) (zeros-low n)
+use Rattle.stuffing.specs.Taking.{leftIn, leftBy, Sound, pending, lawful, Took}
+use Rattle.packet.specs.Reading.{Unstuffed}
+use Rattle.stuffing.specs.declared.unstuff.Taking.{Taking}
+use Rattle.checking.proofs.Zeros.{zeros-low, zeros-add}
+use Rattle.stuffing.proofs.Sending.{low-cut}
+use Rattle.stuffing.proofs.Takings.{took-more}
 
 some : (n : ℕ) → 0 < 2 ^ n
 some n = let p : 2 ^ 0 ≤ 2 ^ n = pow-mono {i = 0} {j = n} (omega arith) in omega (arith, p)
@@ -62,11 +59,6 @@ module _ (bits : List ℕ) (i : ℕ) (are : allBits bits ≡ true) (long : i + 3
   took-word a b = rw (take-add i 32 bits) (took-more a (rw word-bits at b))
 
 -- ---- the end
-
-zeros-add : (n m : ℕ) (xs : List ℕ) → zeros n ++ (zeros m ++ xs) ≡ zeros (n + m) ++ xs
-unfolding zeros
-zeros-add zero m xs = rw (zero-add m)
-zeros-add (suc n) m xs = rw (suc-add n m) (ap (λ (t : List ℕ). 0 ∷ t) (zeros-add n m xs))
 
 unstuffed-zeros : (n : ℕ) (xs : List ℕ) → unstuffed 5 (zeros n ++ xs) ≡ zeros n ++ unstuffed 5 xs
 unfolding zeros unstuffed

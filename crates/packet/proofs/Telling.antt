@@ -14,10 +14,11 @@ use Rattle.laws.proofs.Lists.{next, done, all-bytes, take-bytes, same→eq, sam
 use Rattle.bits.specs.Bits.{lowFirst, highFirst, lowValue, joined, eights, allBits, sentBits, bytesOf}
 use Rattle.bits.proofs.Bits.{allBits-take, allBits-drop, bits-back, value-back, low-append}
 use Rattle.bits.proofs.Bytes.{sentBits-more, sentBits-end, sent-append, length-sent, bytes-back}
-use Rattle.packet.specs.Check.{zeros, through, mirrored, checkOf}
-use Rattle.packet.specs.Stuff.{flag}
+use Rattle.checking.specs.Check.{zeros, through, mirrored, checkOf}
+use Rattle.stuffing.specs.Stuff.{flag}
 use Rattle.packet.specs.Packet.{wholeBytes, checked, payloadLength}
-use Rattle.packet.proofs.Register.{mirrored-not, mirrored-bits}
+use Rattle.checking.proofs.Register.{mirrored-not, mirrored-bits}
+use Rattle.checking.proofs.Checking.{sent-zeros}
 use Rattle.packet.proofs.Answers.{whole}
 
 -- two lists are the same exactly when two numbers are, if each says the other
@@ -55,10 +56,6 @@ module _ (xs : List ℕ) {v : ℕ} (bits : allBits xs ≡ true) (long : 40 ≤ l
       flag-told d n (allBits-drop (length xs - 8) xs bits) (e ∙ ap lowValue (take-all 8 d (omega arith)))
 
 -- ---- whole bytes, payload and check, behind four others
-
-four-zeros : sentBits (zeros 4) ≡ zeros 32
-unfolding sentBits joined lowFirst zeros
-four-zeros = refl
 
 zeros-back : bytesOf 4 (sentBits (zeros 4) ++ []) ≡ zeros 4
 unfolding bytesOf eights lowValue sentBits joined lowFirst zeros
@@ -122,7 +119,7 @@ module _ (raw : List ℕ) (n : ℕ) (long : length raw ≡ n + 6) (bytes : (i : 
   pub front-zeros : sentBits (take 4 raw) ≡ zeros 32 → take 4 raw ≡ zeros 4
   front-zeros e =
       let four : length (take 4 raw) ≡ 4 = length-take-le 4 raw (omega arith) in
-      sym (bytes-back (take 4 raw) [] (take-bytes 4 raw (all-bytes raw bytes))) ∙ ap₂ (λ (k : ℕ) (t : List ℕ). bytesOf k (t ++ [])) four (e ∙ sym four-zeros) ∙ zeros-back
+      sym (bytes-back (take 4 raw) [] (take-bytes 4 raw (all-bytes raw bytes))) ∙ ap₂ (λ (k : ℕ) (t : List ℕ). bytesOf k (t ++ [])) four (e ∙ sym (sent-zeros 4)) ∙ zeros-back
 
   -- what copying the payload comes to
   pub copied : (out : List ℕ) {out′ : List ℕ} {m : ℕ} → m ≡ n → out′ ≡ take (length (take m (drop 4 raw))) (take m (drop 4 raw)) ++ drop (length (take m (drop 4 raw))) out

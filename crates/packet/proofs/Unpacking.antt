@@ -1,6 +1,6 @@
 -- What `unpack` finds once all bits between the flags are taken.
 -- Assumes nothing.
-use mathlib.Core.Path.{_≡_, refl, sym, ap, ap₂, _∙_}
+use mathlib.Core.Path.{_≡_, sym, ap, ap₂, _∙_}
 use mathlib.Core.Bool.{true, false}
 use mathlib.Core.List.{List, _++_}
 use Prim.Native.Nat.{ℕ, _+_, _*_, _/_, _%_, _≤_, _<_}
@@ -12,18 +12,15 @@ use Rattle.numbers.specs.declared.Refusal.the-variants.{BadStuffing, NotWhole}
 use Rattle.bits.specs.Bits.{lowFirst, sentBits, eightOf}
 use Rattle.bits.proofs.Bits.{length-lowFirst}
 use Rattle.bits.proofs.Bytes.{length-sent, sent-append}
-use Rattle.packet.specs.Check.{zeros}
-use Rattle.packet.specs.Stuff.{legal, unstuffed}
+use Rattle.checking.specs.Check.{zeros}
+use Rattle.stuffing.specs.Stuff.{legal, unstuffed}
 use Rattle.packet.specs.Packet.{frameIn, frameAnswer, bodyAnswer}
-use Rattle.packet.specs.Taking.{Unstuffed}
+use Rattle.packet.specs.Reading.{Unstuffed}
 use Rattle.packet.specs.declared.Received.the-variants.{Refused}
-use Rattle.packet.specs.declared.unstuff.Taking.{Taking}
+use Rattle.stuffing.specs.declared.unstuff.Taking.{Taking}
+use Rattle.checking.proofs.Zeros.{length-zeros}
 use Rattle.packet.proofs.Answers.{stuffing-bad, stuffing-good, count-odd, count-low, count-high, count-bad}
-use Rattle.packet.proofs.Takings.{stored-sent}
-
-zeros-long : length (zeros 32) ≡ 32
-unfolding zeros
-zeros-long = refl
+use Rattle.stuffing.proofs.Takings.{stored-sent}
 
 module _ {body raw : List ℕ} {s : Taking} (u : Unstuffed body s raw) where
   pub spoilt-bad : s .spoilt ≡ true → Refused BadStuffing ≡ bodyAnswer body
@@ -42,7 +39,7 @@ module _ {body raw : List ℕ} {s : Taking} (u : Unstuffed body s raw) where
           ap length (u .stored clean),
           length-append S P,
           length-append (zeros 32) (unstuffed 5 body),
-          zeros-long,
+          length-zeros 32,
           length-sent (take (s .count) raw),
           length-take-le (s .count) raw (u .sound .fits),
           length-lowFirst (s .have) (s .part),
@@ -89,9 +86,9 @@ module _ {body raw : List ℕ} {s : Taking} (u : Unstuffed body s raw) where
           pub front-sent : sentBits (take 4 (take n raw′)) ≡ zeros 32
           front-sent =
               let t = take n raw′ in
-              sym (take-at (sentBits (take 4 t)) (sentBits (drop 4 t)) 32 front-long) ∙ ap (take 32) parts-sent ∙ take-at (zeros 32) (frameIn body) 32 zeros-long
+              sym (take-at (sentBits (take 4 t)) (sentBits (drop 4 t)) 32 front-long) ∙ ap (take 32) parts-sent ∙ take-at (zeros 32) (frameIn body) 32 (length-zeros 32)
 
           pub frame-sent : sentBits (drop 4 (take n raw′)) ≡ frameIn body
           frame-sent =
               let t = take n raw′ in
-              sym (drop-at (sentBits (take 4 t)) (sentBits (drop 4 t)) 32 front-long) ∙ ap (drop 32) parts-sent ∙ drop-at (zeros 32) (frameIn body) 32 zeros-long
+              sym (drop-at (sentBits (take 4 t)) (sentBits (drop 4 t)) 32 front-long) ∙ ap (drop 32) parts-sent ∙ drop-at (zeros 32) (frameIn body) 32 (length-zeros 32)

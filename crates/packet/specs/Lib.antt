@@ -1,7 +1,3 @@
-pub mod Check
-pub mod Stuff
-pub mod Marks
-pub mod Sending
-pub mod Taking
 pub mod Packet
+pub mod Reading
 pub mod Promises

@@ -11,8 +11,8 @@ use Rattle.laws.specs.Lists.{over, same}
 use Rattle.numbers.specs.declared.Refusal.the-variants.{NotBits, BadLength, NoRoom, NoFlag, BadStuffing, NotWhole, BadCheck}
 use Rattle.numbers.specs.Numbers.{numberOf}
 use Rattle.bits.specs.Bits.{allBits, highFirst, sentBits, bytesOf}
-use Rattle.packet.specs.Check.{checkOf}
-use Rattle.packet.specs.Stuff.{flag, stuffed, legal, unstuffed}
+use Rattle.checking.specs.Check.{checkOf}
+use Rattle.stuffing.specs.Stuff.{flag, stuffed, legal, unstuffed}
 use Rattle.packet.specs.declared.Written.{Written}
 use Rattle.packet.specs.declared.Written.the-variants.{Bits, Refused as NotWritten}
 use Rattle.packet.specs.declared.Received.{Received}

@@ -10,7 +10,7 @@ use lib.ListN.{length}
 use Rattle.laws.specs.Tests.{between}
 use Rattle.laws.specs.Lists.{over, AllBytes}
 use Rattle.bits.specs.Bits.{allBits, bytesOf}
-use Rattle.packet.specs.Stuff.{legal}
+use Rattle.stuffing.specs.Stuff.{legal}
 use Rattle.packet.specs.Packet.{packetOf, writtenNumber, writeAnswer, Writes, receivedNumber, flagged, bodyOf, frameIn, wholeBytes, checked, readAnswer, Reads}
 use Rattle.packet.specs.declared.Written.{Written}
 use Rattle.packet.specs.declared.Written.the-variants.{Bits}

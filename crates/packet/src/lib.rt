@@ -1,11 +1,7 @@
 // Link packets, from opening to closing flag. Promises: each of `write` and `read` gives, for every input, the answer and leaves in the
 // lent buffer the content that specs/Packet.antt says; a refusal leaves the buffer as it was. specs/Promises.antt has both round trips,
 // "given exactly when" for each number, and that no second answer meets the contract.
-pub mod check;
-pub mod marks;
 pub mod reading;
-pub mod stuff;
-pub mod unstuff;
 pub mod writing;
 
 ghost use Rattle.packet.specs.Packet.{Writes, Reads};

@@ -5,17 +5,18 @@ ghost use mathlib.Core.List.{_++_};
 ghost use Prim.Native.Nat.{_+_, _-_, _*_, _%_, _^_, _≤_, _<_};
 ghost use lib.ListN.{length, take, drop};
 ghost use Rattle.bits.specs.Bits.{lowFirst, sentBits, allBits};
-ghost use Rattle.packet.specs.Check.{zeros};
+ghost use Rattle.checking.specs.Check.{zeros};
 ghost use Rattle.packet.specs.Packet.{bodyOf, frameIn, frameAnswer, bodyAnswer, readOut};
-ghost use Rattle.packet.specs.Taking.{Sound, Took, Unstuffed};
+ghost use Rattle.stuffing.specs.Taking.{Sound, Took};
+ghost use Rattle.packet.specs.Reading.{Unstuffed};
 use crate::Received;
-use crate::check::register_after;
-use crate::unstuff::Taking;
-use crate::unstuff::take_word;
 use bits::store_eight;
 use bits::word_at;
 use bytes::copy;
+use checking::register_after;
 use numbers::Refusal;
+use stuffing::unstuff::Taking;
+use stuffing::unstuff::take_word;
 
 // The first bits of the body, as many as are more than whole words, as the last ones of a word whose others are 0.
 fn first_word(bits: &[u8], over: usize) -> u64

@@ -1,141 +1,42 @@
-use Prim.Native.Nat.{_+_}
-use native.Mathlib.Omega.{arith}
-use Rattle.bits.specs.Field.{wordOf}
-use Rattle.bits.proofs.Words.{Eight, eight-bytes}
+use mathlib.Core.Path.{_∙_}
+use Rattle.bits.proofs.Words.{swap-loaded}
 use borrow.Author.Needs.{needs}
 use Rattle.bits.proofs.field.word_at.Statement.{statement}
 use Rattle.bits.proofs.field.word_at.Tie as tie
 
--- all eight bytes are read by now
-small : (c : tie.After-shared-slice-known8) → Eight (c .before .before .before .before .before .before .before .before .args .bytes .now) (c .before .before .before .before .before .before .before .before .args .s)
-small c = eight-bytes (c .before .before .before .before .before .before .before .before .args .bytes .now) (λ i. c .shared-slice-known8 .given i .fits) (c .before .before .before .before .before .before .before .before .args .s)
+four-at-requires : tie.Need-four-at-requires
+four-at-requires c κs = search needs
 
-shared-slice-read-a : tie.Need-shared-slice-read-a
-shared-slice-read-a c = search needs
+cast-low : tie.Need-cast-low
+cast-low c = search needs
 
-cast-a : tie.Need-cast-a
-cast-a c = omega (arith, c .shared-slice-known .given (c .before .args .s))
+add-four-at : tie.Need-add-four-at
+add-four-at c = search needs
 
-add-b : tie.Need-add-b
-add-b c = search needs
+four-at-requires-2 : tie.Need-four-at-requires-2
+four-at-requires-2 c κs = search needs
 
-shared-slice-read-b : tie.Need-shared-slice-read-b
-shared-slice-read-b c = search needs
+cast-high : tie.Need-cast-high
+cast-high c = search needs
 
-cast-b : tie.Need-cast-b
-cast-b c = omega (arith, c .shared-slice-known2 .given (c .before .before .args .s + 1))
+add-swapped : tie.Need-add-swapped
+add-swapped c = search needs
 
-add-c : tie.Need-add-c
-add-c c = search needs
-
-shared-slice-read-c : tie.Need-shared-slice-read-c
-shared-slice-read-c c = search needs
-
-cast-c : tie.Need-cast-c
-cast-c c = omega (arith, c .shared-slice-known3 .given (c .before .before .before .args .s + 2))
-
-add-d : tie.Need-add-d
-add-d c = search needs
-
-shared-slice-read-d : tie.Need-shared-slice-read-d
-shared-slice-read-d c = search needs
-
-cast-d : tie.Need-cast-d
-cast-d c = omega (arith, c .shared-slice-known4 .given (c .before .before .before .before .args .s + 3))
-
-add-e : tie.Need-add-e
-add-e c = search needs
-
-shared-slice-read-e : tie.Need-shared-slice-read-e
-shared-slice-read-e c = search needs
-
-cast-e : tie.Need-cast-e
-cast-e c = omega (arith, c .shared-slice-known5 .given (c .before .before .before .before .before .args .s + 4))
-
-add-f : tie.Need-add-f
-add-f c = search needs
-
-shared-slice-read-f : tie.Need-shared-slice-read-f
-shared-slice-read-f c = search needs
-
-cast-f : tie.Need-cast-f
-cast-f c = omega (arith, c .shared-slice-known6 .given (c .before .before .before .before .before .before .args .s + 5))
-
-add-g : tie.Need-add-g
-add-g c = search needs
-
-shared-slice-read-g : tie.Need-shared-slice-read-g
-shared-slice-read-g c = search needs
-
-cast-g : tie.Need-cast-g
-cast-g c = omega (arith, c .shared-slice-known7 .given (c .before .before .before .before .before .before .before .args .s + 6))
-
-add-h : tie.Need-add-h
-add-h c = search needs
-
-shared-slice-read-h : tie.Need-shared-slice-read-h
-shared-slice-read-h c = search needs
-
-cast-h : tie.Need-cast-h
-cast-h c = omega (arith, c .shared-slice-known8 .given (c .before .before .before .before .before .before .before .before .args .s + 7))
-
-add-result : tie.Need-add-result
-add-result c = omega (arith, small c)
-
-add-result-2 : tie.Need-add-result-2
-add-result-2 c = omega (arith, small c)
-
-add-result-3 : tie.Need-add-result-3
-add-result-3 c = omega (arith, small c)
-
-add-result-4 : tie.Need-add-result-4
-add-result-4 c = omega (arith, small c)
-
-add-result-5 : tie.Need-add-result-5
-add-result-5 c = omega (arith, small c)
-
-add-result-6 : tie.Need-add-result-6
-add-result-6 c = omega (arith, small c)
-
-add-result-7 : tie.Need-add-result-7
-add-result-7 c = omega (arith, small c)
+swapped-requires : tie.Need-swapped-requires
+swapped-requires c κs = search needs
 
 returns : tie.Need-returns
-unfolding wordOf
-returns c = omega (arith, small c)
+returns c = c .swapped .ensures ∙ swap-loaded _ (λ i. c .before .before .before .shared-slice-known .given i .fits) _ (c .before .before .four-at .ensures) (c .before .four-at2 .ensures)
 
 pub word-at-spec : {M : Type 1} → statement M
 word-at-spec =
     tie.close
     (tie.spec
-    shared-slice-read-a
-    cast-a
-    add-b
-    shared-slice-read-b
-    cast-b
-    add-c
-    shared-slice-read-c
-    cast-c
-    add-d
-    shared-slice-read-d
-    cast-d
-    add-e
-    shared-slice-read-e
-    cast-e
-    add-f
-    shared-slice-read-f
-    cast-f
-    add-g
-    shared-slice-read-g
-    cast-g
-    add-h
-    shared-slice-read-h
-    cast-h
-    add-result
-    add-result-2
-    add-result-3
-    add-result-4
-    add-result-5
-    add-result-6
-    add-result-7
+    four-at-requires
+    cast-low
+    add-four-at
+    four-at-requires-2
+    cast-high
+    add-swapped
+    swapped-requires
     returns)

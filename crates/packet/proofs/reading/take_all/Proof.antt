@@ -4,8 +4,8 @@ use native.Mathlib.Omega.{arith}
 use lib.ListN.{length, take, drop}
 use lib.Seq.{take-all, length-take-le}
 use Rattle.bits.proofs.Bits.{allBits-drop, value-bound}
-use Rattle.packet.specs.Taking.{Took}
-use Rattle.packet.proofs.Takings.{took-nothing}
+use Rattle.stuffing.specs.Taking.{Took}
+use Rattle.stuffing.proofs.Takings.{took-nothing}
 use Rattle.packet.proofs.Taken.{took-word}
 use Rattle.packet.proofs.reading.take_all.Statement.{statement}
 use Rattle.packet.proofs.reading.take_all.Tie as tie

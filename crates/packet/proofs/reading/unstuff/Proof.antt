@@ -3,7 +3,7 @@ use Prim.Native.Nat.{_+_, _-_, _%_}
 use native.Mathlib.Omega.{arith}
 use lib.ListN.{length, take, drop, length-take, length-drop}
 use Rattle.bits.proofs.Bits.{allBits-take, allBits-drop, length-lowFirst}
-use Rattle.packet.proofs.Takings.{took-more}
+use Rattle.stuffing.proofs.Takings.{took-more}
 use Rattle.packet.proofs.Taken.{sound-first, took-all, body-parts, body-short}
 use borrow.Author.Needs.{needs}
 use Rattle.packet.proofs.reading.unstuff.Statement.{statement}

@@ -1,86 +1,128 @@
-use mathlib.Core.Path.{refl}
+use mathlib.Core.Path.{_∙_}
+use Prim.Native.Nat.{_-_, _%_}
 use native.Mathlib.Omega.{arith}
-use Rattle.packet.specs.Check.{zeros}
-use Rattle.packet.proofs.Building.{packet-short, behind-four, frame-room, flag-room, built-long, built}
+use lib.ListN.{length, length-take, length-drop}
+use Rattle.bits.specs.Bits.{lowFirst}
+use Rattle.stuffing.specs.Sending.{Leads}
+use Rattle.packet.proofs.Building.{framed, sent-none, sent-first, sent-on, Whole, few-room, fours-room, check-room, whole}
 use borrow.Author.Needs.{needs}
 use Rattle.packet.proofs.writing.build.Statement.{statement}
 use Rattle.packet.proofs.writing.build.Tie as tie
+use Rattle.packet.proofs.writing.build.Reads as reads
+use Rattle.packet.proofs.writing.build.Lts as lts
+use Rattle.bits.proofs.turn.turns.Reads as turns-reads
+use Rattle.stuffing.proofs.stuff.send_two.Reads as send-two-reads
+use Rattle.packet.proofs.writing.put_flag.Reads as put-flag-reads
+use Rattle.packet.proofs.writing.send_few.Reads as send-few-reads
+use Rattle.packet.proofs.writing.send_fours.Reads as send-fours-reads
 
 turns-requires : tie.Need-turns-requires
 turns-requires c κs = search needs
 
-slice-aggregate-put-frame : tie.Need-slice-aggregate-put-frame
-slice-aggregate-put-frame c = search needs
-
-put-frame-requires : tie.Need-put-frame-requires
-unfolding zeros
-put-frame-requires c κs = (c .before .before .before .before .pre .0, refl)
-
 put-flag-requires : tie.Need-put-flag-requires
 put-flag-requires c κs = search needs
 
-add-end : tie.Need-add-end
-add-end c = search needs
+slice-aggregate-send-few : tie.Need-slice-aggregate-send-few
+slice-aggregate-send-few c = simp length-take (omega arith)
 
-sub-send-all : tie.Need-sub-send-all
-sub-send-all c = search needs
-
-part-send-all-start : tie.Need-part-send-all-start
-part-send-all-start c = search needs
-
-part-send-all-end : tie.Need-part-send-all-end
-part-send-all-end c = search needs
-
-send-all-requires : tie.Need-send-all-requires
-send-all-requires c κs =
-    let s = c .before .before .before .before .before .before .before .before .before .before .before .before .before .before in
+send-few-requires : tie.Need-send-few-requires
+send-few-requires c κs =
+    let s = c .before .before .before .before .before .before .before .before .before .before in
     let p = s .args .payload .now in
-    let f = c .before .before .before .before .before .before .before .before .before .put-frame in
-    let is = behind-four p _ (f .kept .1 .0) (f .ensures) in
-    (c .before .before .before .before .before .before .before .before .before .before .before .turns .ensures, omega arith, frame-room p (s .args .out .now) (s .pre .0) (s .pre .1) (c .before .before .before .before .before .before .put-flag .ensures) is)
+    let n = length p % 4 in
+    let a = sent-none (s .args .out .now) (c .before .before .before .before .before .put-flag .ensures) in
+    (c .before .before .before .before .before .before .before .turns .ensures, simp length-take (omega arith), omega arith, few-room p (s .pre .0) (s .pre .1) n a)
+
+sub-send-fours : tie.Need-sub-send-fours
+sub-send-fours c = search needs
+
+part-send-fours-start : tie.Need-part-send-fours-start
+part-send-fours-start c = search needs
+
+part-send-fours-end : tie.Need-part-send-fours-end
+part-send-fours-end c = search needs
+
+send-fours-requires : tie.Need-send-fours-requires
+send-fours-requires c κs =
+    let s = c .before .before .before .before .before .before .before .before .before .before .before .before .before .before .before .before in
+    let p = s .args .payload .now in
+    let n = length p % 4 in
+    let e₁ = c .before .before .before .before .before .send-few in
+    let a₁ = sent-first (s .args .out .now) (c .before .before .before .before .before .before .before .before .before .before .before .put-flag .ensures) (e₁ .ensures .0) (e₁ .kept .1 .1 .0) in
+    (c .before .before .before .before .before .before .before .before .before .before .before .before .before .turns .ensures, simp (length-take, length-drop) (omega arith), e₁ .ensures .0 .four, fours-room p (s .pre .0) (s .pre .1) n a₁)
+
+sub-check : tie.Need-sub-check
+sub-check c = search needs
+
+cast-send-two : tie.Need-cast-send-two
+cast-send-two c = search needs
+
+send-two-requires : tie.Need-send-two-requires
+send-two-requires c κs =
+    let s = c .before .before .before .before .before .before .before .before .before .before .before .before .before .before .before .before .before .before .before .before .before .before in
+    let p = s .args .payload .now in
+    let n = length p % 4 in
+    let e₁ = c .before .before .before .before .before .before .before .before .before .before .before .send-few in
+    let a₁ = sent-first (s .args .out .now) (c .before .before .before .before .before .before .before .before .before .before .before .before .before .before .before .before .before .put-flag .ensures) (e₁ .ensures .0) (e₁ .kept .1 .1 .0) in
+    let e₂ = c .before .before .before .before .before .send-fours in
+    let a₂ = sent-on a₁ (e₂ .ensures .0) (e₂ .kept .1 .1 .0) in
+    (c .before .before .before .before .before .before .before .before .before .before .before .before .before .before .before .before .before .before .before .turns .ensures, omega arith, e₂ .ensures .0 .four, check-room p (s .pre .0) (s .pre .1) n a₂)
+
+-- where all bits of the frame have been sent
+abbrev All : Type 0
+All =
+    lts.After-send-two (
+      turns-reads.Asked,
+      turns-reads.Learnt,
+      put-flag-reads.Asked,
+      put-flag-reads.Learnt,
+      send-few-reads.Asked,
+      send-few-reads.Learnt,
+      send-fours-reads.Asked,
+      send-fours-reads.Learnt,
+      send-two-reads.Asked,
+      send-two-reads.Learnt,
+    ) reads.Pre reads.Post
+
+all-sent : (c : All) → Whole (c .before .before .before .before .before .before .before .before .before .before .before .before .before .before .before .before .before .before .before .before .before .before .before .args .payload .now) (c .before .before .before .before .before .before .before .before .before .before .before .before .before .before .before .before .before .before .before .before .before .before .before .args .out .now) (c .send-two .result) (c .send-two .last .1 .1 .0)
+all-sent c =
+    let s = c .before .before .before .before .before .before .before .before .before .before .before .before .before .before .before .before .before .before .before .before .before .before .before in
+    let p = s .args .payload .now in
+    let e₁ = c .before .before .before .before .before .before .before .before .before .before .before .before .send-few in
+    let a₁ = sent-first (s .args .out .now) (c .before .before .before .before .before .before .before .before .before .before .before .before .before .before .before .before .before .before .put-flag .ensures) (e₁ .ensures .0) (e₁ .kept .1 .1 .0) in
+    let e₂ = c .before .before .before .before .before .before .send-fours in
+    let e₃ = c .send-two in
+    let l₃ : Leads (lowFirst 16 (0xffff - e₂ .result .reg)) (e₂ .result .place) (e₂ .last .1 .1 .0) (e₃ .result) (e₃ .last .1 .1 .0) = e₃ .ensures in
+    let is = framed p (length p % 4) (e₁ .result .reg) (e₂ .result .reg) (omega (arith, e₂ .ok)) (e₁ .ensures .1) (e₂ .ensures .1) in
+    whole p (s .pre .0) (s .pre .1) is (sent-on (sent-on a₁ (e₂ .ensures .0) (e₂ .kept .1 .1 .0)) l₃ (e₃ .kept .1 .1 .0))
 
 put-flag-requires-2 : tie.Need-put-flag-requires-2
-put-flag-requires-2 c κs =
-    let s = c .before .before .before .before .before .before .before .before .before .before .before .before .before .before .before .before .before .before in
-    let p = s .args .payload .now in
-    let f = c .before .before .before .before .before .before .before .before .before .before .before .before .before .put-frame in
-    let is = behind-four p _ (f .kept .1 .0) (f .ensures) in
-    flag-room p (s .args .out .now) (s .pre .0) (s .pre .1) (c .before .before .before .before .before .before .before .before .before .before .put-flag .ensures) is (c .before .before .before .send-all .ensures) (c .before .before .before .send-all .kept .1 .1 .0)
+put-flag-requires-2 c κs = all-sent (c .before .before .before) .room
 
 add-result : tie.Need-add-result
-add-result c =
-    let s = c .before .before .before .before .before .before .before .before .before .before .before .before .before .before .before .before .before .before .before .before .before in
-    let p = s .args .payload .now in
-    let f = c .before .before .before .before .before .before .before .before .before .before .before .before .before .before .before .before .put-frame in
-    let is = behind-four p _ (f .kept .1 .0) (f .ensures) in
-    omega (arith, built-long p (s .args .out .now) (s .pre .0) (s .pre .1) (c .before .before .before .before .before .before .before .before .before .before .before .before .before .put-flag .ensures) is (c .before .before .before .before .before .before .send-all .ensures) (c .before .before .before .before .before .before .send-all .kept .1 .1 .0), packet-short p (s .pre .0))
+add-result c = omega (arith, all-sent (c .before .before .before .before .before .before) .fits)
 
 same-length : tie.Need-same-length
-same-length c = search needs
+same-length c = c .before .before .put-flag2 .kept .0 ∙ c .before .before .before .before .before .before .send-two .kept .1 .1 .0 ∙ c .before .before .before .before .before .before .before .before .before .before .before .before .send-fours .kept .1 .1 .0 ∙ c .before .before .before .before .before .before .before .before .before .before .before .before .before .before .before .before .before .before .send-few .kept .1 .1 .0 ∙ c .before .before .before .before .before .before .before .before .before .before .before .before .before .before .before .before .before .before .before .before .before .before .before .before .put-flag .kept .0
 
 returns : tie.Need-returns
-returns c =
-    let s = c .before .before .before .before .before .before .before .before .before .before .before .before .before .before .before .before .before .before .before .before .before in
-    let p = s .args .payload .now in
-    let f = c .before .before .before .before .before .before .before .before .before .before .before .before .before .before .before .before .put-frame in
-    let is = behind-four p _ (f .kept .1 .0) (f .ensures) in
-    let e = c .before .before .before .before .before .before .send-all in
-    let flagged = c .before .before .before .before .before .before .before .before .before .before .before .before .before .put-flag .ensures in
-    (built-long p (s .args .out .now) (s .pre .0) (s .pre .1) flagged is (e .ensures) (e .kept .1 .1 .0), built p (s .args .out .now) (s .pre .0) (s .pre .1) flagged is (e .ensures) (e .kept .1 .1 .0) (c .before .before .put-flag2 .ensures))
+returns c = let w = all-sent (c .before .before .before .before .before .before) in (w .long, w .built _ (c .before .before .put-flag2 .ensures))
 
 pub build-spec : {M : Type 1} → statement M
 build-spec =
     tie.close
     (tie.spec
     turns-requires
-    slice-aggregate-put-frame
-    put-frame-requires
     put-flag-requires
-    add-end
-    sub-send-all
-    part-send-all-start
-    part-send-all-end
-    send-all-requires
+    slice-aggregate-send-few
+    send-few-requires
+    sub-send-fours
+    part-send-fours-start
+    part-send-fours-end
+    send-fours-requires
+    sub-check
+    cast-send-two
+    send-two-requires
     put-flag-requires-2
     add-result
     same-length

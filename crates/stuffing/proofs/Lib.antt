@@ -1,0 +1,9 @@
+pub mod Stuffing
+pub mod Marking
+pub mod PutIn
+pub mod Leaving
+pub mod LastFour
+pub mod OneZero
+pub mod Filling
+pub mod Sending
+pub mod Takings

@@ -1,0 +1,4 @@
+pub mod Stuff
+pub mod Marks
+pub mod Sending
+pub mod Taking
