@@ -51,17 +51,9 @@ take-bytes (suc n) (x ∷ xs) h = (h .0, take-bytes n xs (h .1))
 
 -- ---- stores
 
--- one store, and the rest from the next place on
-pub put-one : (out : List ℕ) (o b : ℕ) (xs : List ℕ) → sets (set out o b) (o + 1) xs ≡ sets out o (b ∷ xs)
-put-one out o b xs = rw (add-one o)
-
 pub sets-append : {A : Type 0} (xs ys out : List A) (o : ℕ) → sets out o (xs ++ ys) ≡ sets (sets out o xs) (o + length xs) ys
 sets-append [] ys out o = rw (add-zero o)
 sets-append (x ∷ xs) ys out o = sets-append xs ys (set out o x) (suc o) ∙ ap (λ (k : ℕ). sets (sets (set out o x) (suc o) xs) k ys) (suc-add o (length xs) ∙ sym (add-suc o (length xs)))
-
--- one store after a list of stores
-pub stored-last : (xs out : List ℕ) (o n y : ℕ) → length xs ≡ n → set (sets out o xs) (o + n) y ≡ sets out o (xs ++ (y ∷ []))
-stored-last xs out o n y e = sym (sets-append xs (y ∷ []) out o ∙ ap (λ (k : ℕ). set (sets out o xs) (o + k) y) e)
 
 -- a store before a list of stores may as well come first
 set-before : (zs out : List ℕ) (o j y : ℕ) → j < o → set (sets out o zs) j y ≡ sets (set out j y) o zs
