@@ -4,6 +4,7 @@
 # make air      our packets as sound, heard by two receivers that nobody here wrote, Debian's direwolf and gnuais; it installs them
 # make bench    packets and messages, written and read, beside plain C, the best C by hand and the second program, as ratios; choosing; and a
 #               day at sea
+# make stack    the stack of each public call, in a program that makes all of them, and of each C call of the board, as a table
 #
 # Rattle compiles for x86-64. Elsewhere what links with it is compiled for x86-64 too and runs under an emulator.
 
@@ -59,7 +60,7 @@ LOGS := 2000
 BAD := 5000
 FROM := 1001
 
-.PHONY: run test compare air bench tools programs clean
+.PHONY: run test compare air bench stack tools programs clean
 
 run: tools $(SLOTBOOK) $(if $(LOG),build/logtext)
 	@$(if $(LOG),build/logtext to-log <$(LOG) |) $(SLOTBOOK_RUN) $(SLOTBOOK) $(if $(LOG),,<crates/slotbook/stdin)
@@ -81,6 +82,9 @@ bench: tools $(BENCHES)
 	@$(X86_RUN) build/bench_choosing "$(WHERE)"
 	@echo
 	@bench/day "$(WHERE)" "$(SLOTBOOK_RUN) $(SLOTBOOK)" "$(X86_RUN) build/bench_slotbook"
+
+stack: tools $(BOARD)
+	@tests/stack
 
 tools:
 	@mkdir -p build
