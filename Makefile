@@ -30,19 +30,19 @@ SANITIZE := -O1 -g -fsanitize=address,undefined -fno-sanitize-recover=all
 
 SLOTBOOK := target/bin/slotbook
 BOARD := target/staticlib/libboard.a
-TRIAL := target/staticlib/libtrial.a
+TESTFACE := target/staticlib/libtestface.a
 COMMON := $(addprefix second/,random.c stream.c lines.c trial.c report.c tally.c run.c)
 PACKET := $(addprefix second/,packet.c unstuffed.c damage.c refusals.c faults.c cases.c vectors.c) $(COMMON)
 MESSAGE := $(addprefix second/,message.c message_vectors.c message_fields.c message_lengths.c message_cases.c message_run.c occurrences.c) \
 	$(COMMON)
-BOOK := $(addprefix second/,book.c hearing.c message.c book_case.c calls_by_hand.c marks_by_hand.c records_by_hand.c refusals_by_hand.c \
-	order_by_hand.c strange_by_hand.c strange_at_random.c book_model.c book_agrees.c book_said.c book_calls.c book_sequences.c occurrences.c \
-	random.c report.c)
-CHOOSING := $(addprefix second/,choosing.c windows.c reporting.c book.c hearing.c message.c book_case.c choosing_case.c windows_by_hand.c \
-	window_slots_by_hand.c candidates_by_hand.c choices_by_hand.c choosing_refusals_by_hand.c reports_by_hand.c all_draws.c \
+BOOK := $(addprefix second/,book.c hearing.c rows.c message.c book_case.c calls_by_hand.c marks_by_hand.c records_by_hand.c \
+	refusals_by_hand.c order_by_hand.c rows_by_hand.c strange_by_hand.c strange_at_random.c book_model.c book_agrees.c book_said.c \
+	book_calls.c book_sequences.c occurrences.c random.c report.c)
+CHOOSING := $(addprefix second/,choosing.c windows.c reporting.c book.c hearing.c rows.c message.c book_case.c choosing_case.c \
+	windows_by_hand.c window_slots_by_hand.c candidates_by_hand.c choices_by_hand.c choosing_refusals_by_hand.c reports_by_hand.c all_draws.c \
 	strange_book.c strange_choices.c strange_reports.c book_model.c book_agrees.c model_windows.c choosing_model.c choosing_notes.c \
 	choosing_drawn.c choosing_calls.c choosing_sequences.c drawn_position.c occurrences.c random.c report.c)
-RUN_BOOK := $(addprefix second/,book.c hearing.c message.c choosing.c windows.c)
+RUN_BOOK := $(addprefix second/,book.c hearing.c rows.c message.c choosing.c windows.c)
 RUN_LOG := $(addprefix second/,journal.c log_record.c log_streams.c) $(RUN_BOOK)
 LOG_TEXT := $(addprefix second/,record_text.c log_record.c log_streams.c lines.c)
 LOG_MAKING := $(addprefix second/,logs.c log_maker.c log_maker_hearing.c log_maker_choosing.c log_maker_strange.c drawn_position.c book_case.c \
@@ -92,7 +92,7 @@ tools:
 
 programs: $(PROGRAMS)
 
-$(BOARD) $(TRIAL): target/staticlib/lib%.a: crates.txt $(shell find crates -name '*.rt' -o -name '*.antt')
+$(BOARD) $(TESTFACE): target/staticlib/lib%.a: crates.txt $(shell find crates -name '*.rt' -o -name '*.antt')
 	rt staticlib $*
 
 $(SLOTBOOK): crates.txt $(shell find crates -name '*.rt' -o -name '*.antt')
@@ -142,8 +142,8 @@ build/makeday: bench/makeday.c second/log_record.c second/log_streams.c second/m
 build/bench_slotbook: second/slotbook.c $(RUN_LOG) $(HEADERS)
 	$(X86_CC) $(WARN) $(OPT) $(X86_LINK) -o $@ $(filter %.c,$^)
 
-build/bench_choosing: bench/bench_choosing.c second/book.c second/choosing.c second/windows.c $(HEADERS) $(TRIAL)
-	$(X86_CC) $(WARN) $(OPT) -DFLAGS='"$(OPT)"' $(X86_LINK) -o $@ $(filter %.c,$^) $(TRIAL)
+build/bench_choosing: bench/bench_choosing.c second/book.c second/choosing.c second/windows.c $(HEADERS) $(TESTFACE)
+	$(X86_CC) $(WARN) $(OPT) -DFLAGS='"$(OPT)"' $(X86_LINK) -o $@ $(filter %.c,$^) $(TESTFACE)
 
 build/bench_%: bench/bench_%.c $(HEADERS) $(BOARD)
 	$(X86_CC) $(WARN) $(OPT) -DFLAGS='"$(OPT)"' $(X86_LINK) -o $@ $(filter %.c,$^) $(BOARD)

@@ -6,7 +6,7 @@
 #define _POSIX_C_SOURCE 199309L
 
 #include "../second/choosing.h"
-#include "trial.h"
+#include "testface.h"
 
 #include <stdio.h>
 #include <stdlib.h>
@@ -72,10 +72,10 @@ static uint32_t ours(uint16_t draw, struct chosen *chosen)
     for (size_t i = 0; i < SECOND_RECORDS; i++) {
         const struct station *one = &records[i];
         tallies[i] = one->tally;
-        reaches[i] = qs_trial_reach(book.ship.latitude, book.ship.longitude, one->base, one->latitude, one->longitude,
+        reaches[i] = qs_test_reach(book.ship.latitude, book.ship.longitude, one->base, one->latitude, one->longitude,
                                     one->hold_off);
     }
-    uint32_t number = qs_trial_choose(slots, SECOND_SLOTS, tallies, SECOND_RECORDS, reaches, SECOND_RECORDS, out, OUT,
+    uint32_t number = qs_test_choose(slots, SECOND_SLOTS, tallies, SECOND_RECORDS, reaches, SECOND_RECORDS, out, OUT,
                                       book.channel.free, book.channel.own, book.now, RATE, START, 0, TIME_OUT, draw);
     if (number == DONE) {
         *chosen = (struct chosen){(uint32_t)out[2], (uint32_t)out[3], (uint32_t)out[4], (uint32_t)out[5]};

@@ -11,6 +11,9 @@ void calls_by_hand(struct report *report);
 void marks_by_hand(struct report *report);
 void records_by_hand(struct report *report);
 
+/* What a report announces, and in what order it is freed and marked. */
+void rows_by_hand(struct report *report);
+
 /* Each refusal at its limit and past it, and which comes first. */
 void refusals_by_hand(struct report *report);
 void order_by_hand(struct report *report);

@@ -3,9 +3,7 @@
 #include "book.h"
 
 #include "message.h"
-
-/* The frames that a self-organised state speaks of, and the codes from which on 8,192 is added to the increment. */
-enum { FRAMES = 7, CODE_FAR = 5, FAR = 8192 };
+#include "rows.h"
 
 /* Where a message's list of numbers has what hearing needs. */
 enum { PLACE_ID = 0, PLACE_REPEAT = 1, PLACE_SOURCE = 2, PLACE_LONGITUDE = 7, PLACE_BASE_LONGITUDE = 10 };
@@ -31,77 +29,44 @@ static void free_if_held(struct book *book, size_t ahead, uint16_t record)
     }
 }
 
-static bool uses_offset(const struct announcement *said)
+static void free_rows(struct book *book, uint16_t record, struct rows *rows)
 {
-    return said->time_out == 0 && said->offset != 0;
+    uint64_t ahead = second_next_time(rows, ACT_FREE, 0);
+    while (ahead < SECOND_SLOTS) {
+        free_if_held(book, (size_t)ahead, record);
+        ahead = second_next_time(rows, ACT_FREE, ahead + 1);
+    }
 }
 
-static uint32_t mark_self_organised(struct book *book, uint16_t record, const struct announcement *said)
+static uint32_t mark_rows(struct book *book, uint16_t record, struct rows *rows)
 {
     uint32_t marks = 0;
-    for (uint32_t i = 1; i <= FRAMES; i++) {
-        size_t ahead = (size_t)SECOND_FRAME * i;
-        if (i <= said->time_out) {
-            marks += mark(book, ahead, record);
-        } else {
-            free_if_held(book, ahead, record);
-        }
-    }
-    if (uses_offset(said)) {
-        marks += mark(book, said->offset, record);
+    uint64_t ahead = second_next_time(rows, ACT_MARK, 0);
+    while (ahead < SECOND_SLOTS) {
+        marks += mark(book, (size_t)ahead, record);
+        ahead = second_next_time(rows, ACT_MARK, ahead + 1);
     }
     return marks;
 }
 
-/* The slot times from `first` ahead on. They may lie far past the book and past 32 bits. */
-struct block {
-    uint64_t first, slots;
-};
-
-static struct block announced_block(const struct announcement *said)
+/* Frees first, then marks, each time once and in the order of time; returns MARKS. */
+static uint32_t carry_out(struct book *book, uint16_t record, struct rows *rows)
 {
-    if (said->increment == 0) {
-        return (struct block){0, 0};
-    }
-    if (said->slots_code < CODE_FAR) {
-        return (struct block){said->increment, (uint64_t)said->slots_code + 1};
-    }
-    return (struct block){(uint64_t)said->increment + FAR, (uint64_t)said->slots_code - CODE_FAR + 1};
-}
-
-/* Where the block has the kept slot in it, that is marked twice, and counts as one. */
-static uint32_t mark_incremental(struct book *book, uint16_t record, const struct announcement *said)
-{
-    struct block block = announced_block(said);
-    bool keeps = said->keep == 1;
-    uint32_t marks = keeps && mark(book, SECOND_FRAME, record) ? 1 : 0;
-    for (uint64_t time = block.first; time < block.first + block.slots; time++) {
-        bool marked = mark(book, (size_t)time, record);
-        marks += marked && !(keeps && time == SECOND_FRAME);
-    }
-    return marks;
-}
-
-/* The seven frames and the kept slot always lie in the book; only the offset and the block can lie beyond. */
-static bool lies_beyond(const struct announcement *said)
-{
-    if (said->kind == SELF_ORGANISED) {
-        return uses_offset(said) && said->offset >= SECOND_SLOTS;
-    }
-    struct block block = announced_block(said);
-    return block.first + block.slots > SECOND_SLOTS;
+    free_rows(book, record, rows);
+    return mark_rows(book, record, rows);
 }
 
 uint32_t second_mark(struct book *book, uint16_t record, const struct announcement *said, uint32_t *marks)
 {
+    struct rows rows;
     if (!second_lengths_fit(book)) {
         return REFUSAL_LIST_LENGTH;
     }
-    if (lies_beyond(said)) {
+    second_announce(&rows, said);
+    if (second_lies_beyond(&rows)) {
         return REFUSAL_BEYOND;
     }
-    *marks = said->kind == SELF_ORGANISED ? mark_self_organised(book, record, said)
-                                          : mark_incremental(book, record, said);
+    *marks = carry_out(book, record, &rows);
     return DONE;
 }
 
@@ -143,6 +108,7 @@ static void enter(struct station *record, const struct spoken *spoken)
 
 uint32_t second_hear_spoken(struct book *book, const struct spoken *spoken, struct heard *heard)
 {
+    struct rows rows;
     if (!second_lengths_fit(book)) {
         return REFUSAL_LIST_LENGTH;
     }
@@ -157,13 +123,13 @@ uint32_t second_hear_spoken(struct book *book, const struct spoken *spoken, stru
     if (record == 0) {
         return REFUSAL_NO_RECORD;
     }
-    if (lies_beyond(&spoken->said)) {
+    second_announce(&rows, &spoken->said);
+    if (second_lies_beyond(&rows)) {
         return REFUSAL_BEYOND;
     }
     enter(&book->records[record - 1], spoken);
-    heard->source = spoken->source;
-    heard->record = record;
-    return second_mark(book, record, &spoken->said, &heard->marks);
+    *heard = (struct heard){spoken->source, carry_out(book, record, &rows), record};
+    return DONE;
 }
 
 /* The offset is there with time-out 0 only; with another one it is not looked at. */

@@ -115,33 +115,48 @@ static void give(size_t place, uint16_t holder)
 
 /* ---- hearing ---- */
 
-static void give_unless_own(size_t ahead, uint16_t record)
+static bool is_frame(size_t ahead)
 {
-    if (expected.slots[place_ahead(ahead)] != HOLDER_OWN) {
-        give(place_ahead(ahead), record);
-    }
+    return ahead % 2250 == 0 && ahead >= 2250 && ahead <= 7 * 2250;
 }
 
-static void expect_marks(uint32_t id, uint16_t record, const struct announcement *said)
+static bool is_in_block(const struct announcement *said, size_t ahead)
 {
     size_t first = said->slots_code < 5 ? said->increment : said->increment + 8192;
     size_t slots = said->slots_code < 5 ? said->slots_code + 1 : said->slots_code - 4;
-    if (id == 3 && said->keep == 1) {
-        give_unless_own(2250, record);
+    return said->increment > 0 && ahead >= first && ahead < first + slots;
+}
+
+static bool is_marked(uint32_t id, const struct announcement *said, size_t ahead)
+{
+    if (id == 3) {
+        return (said->keep == 1 && ahead == 2250) || is_in_block(said, ahead);
     }
-    for (size_t i = 0; id == 3 && said->increment > 0 && i < slots; i++) {
-        give_unless_own(first + i, record);
-    }
-    for (size_t frame = 1; id != 3 && frame <= 7; frame++) {
-        if (frame <= said->time_out) {
-            give_unless_own(2250 * frame, record);
-        } else if (expected.slots[place_ahead(2250 * frame)] == record) {
-            give(place_ahead(2250 * frame), HOLDER_NONE);
+    bool at_offset = said->time_out == 0 && said->offset > 0 && ahead == said->offset;
+    return at_offset || (is_frame(ahead) && ahead / 2250 <= said->time_out);
+}
+
+static bool is_freed(uint32_t id, const struct announcement *said, size_t ahead)
+{
+    return id != 3 && is_frame(ahead) && ahead / 2250 > said->time_out;
+}
+
+/* Every time ahead is asked for by itself: first whether it is freed, then whether it is marked. Returns MARKS. */
+static uint32_t expect_marks(uint32_t id, uint16_t record, const struct announcement *said)
+{
+    uint32_t marks = 0;
+    for (size_t ahead = 0; ahead < SECOND_SLOTS; ahead++) {
+        if (is_freed(id, said, ahead) && expected.slots[place_ahead(ahead)] == record) {
+            give(place_ahead(ahead), HOLDER_NONE);
         }
     }
-    if (id != 3 && said->time_out == 0 && said->offset > 0) {
-        give_unless_own(said->offset, record);
+    for (size_t ahead = 0; ahead < SECOND_SLOTS; ahead++) {
+        if (is_marked(id, said, ahead) && expected.slots[place_ahead(ahead)] != HOLDER_OWN) {
+            give(place_ahead(ahead), record);
+            marks++;
+        }
     }
+    return marks;
 }
 
 /* Searched from the end, the last one found is the lowest-numbered. */
@@ -155,7 +170,7 @@ static uint16_t expect_record(uint32_t source)
     return known != 0 ? known : empty;
 }
 
-static uint32_t expect_hearing(uint32_t id, const struct spoken *spoken)
+static uint32_t expect_hearing(uint32_t id, const struct spoken *spoken, uint32_t *marks)
 {
     uint16_t number = expect_record(spoken->source);
     if (spoken->source == 0 || spoken->source == expected.book.ship.source) {
@@ -175,7 +190,7 @@ static uint32_t expect_hearing(uint32_t id, const struct spoken *spoken)
         .hold_off = known ? record->hold_off : 0,
     };
     load_counts();
-    expect_marks(id, number, &spoken->said);
+    *marks = expect_marks(id, number, &spoken->said);
     store_counts();
     return 0;
 }
@@ -195,13 +210,28 @@ static struct spoken random_spoken(void)
     return spoken;
 }
 
+/* The station holds about half of the times that its report speaks of: there the order of the steps shows. */
+static void let_hold(uint32_t id, const struct spoken *spoken)
+{
+    uint16_t record = expect_record(spoken->source);
+    for (size_t ahead = 0; ahead < SECOND_SLOTS; ahead++) {
+        bool spoken_of = is_freed(id, &spoken->said, ahead) || is_marked(id, &spoken->said, ahead);
+        if (spoken_of && random_coin(&random)) {
+            lent.slots[place_ahead(ahead)] = record;
+        }
+    }
+    expected = lent;
+}
+
 static void try_hear(struct check *check)
 {
-    uint32_t id = 1 + below(4);
+    uint32_t id = 1 + below(4), marks = heard_nothing.marks;
     struct spoken spoken = random_spoken();
     make_book();
-    uint32_t number = expect_hearing(id, &spoken);
-    check_that(check, lent_hear(&lent, id, &spoken).number == number, "number");
+    let_hold(id, &spoken);
+    uint32_t number = expect_hearing(id, &spoken, &marks);
+    struct outcome outcome = lent_hear(&lent, id, &spoken);
+    check_that(check, outcome.number == number && outcome.heard.marks == marks, "number or marks");
     check_that(check, lent_same(&expected, &lent), number == 0 ? "what hearing leaves" : "a refusal changed something");
 }
 

@@ -80,23 +80,6 @@ static void test_counts_of_hearing(struct report *report)
     check_report(&check, report);
 }
 
-/* Keep marks a free slot, then the block marks it again: that is two steps up and one down. */
-static void test_counts_of_keep(struct report *report)
-{
-    struct check check = {.name = "counts that do not fit: a kept slot inside the block is marked twice"};
-    static const struct {
-        uint16_t tally, after;
-    } cases[] = {{0, 1}, {1, 2}, {20248, 20249}, {20249, 20250}, {20250, 20250}, {20251, 20250}, {65535, 65534}};
-    for (size_t i = 0; i < COUNT_OF(cases); i++) {
-        lent_new(&lent);
-        lent.records[0] = (struct station){500, false, 0, 0, cases[i].tally, 0};
-        struct outcome outcome = hear_incremental(&lent, 500, 2250, 0, 1);
-        check_that(&check, outcome.number == DONE && outcome.heard.marks == 1, "marks");
-        check_that(&check, lent.records[0].tally == cases[i].after && lent.book.channel.free == 20249, "counts");
-    }
-    check_report(&check, report);
-}
-
 static void test_counts_of_pass(struct report *report)
 {
     struct check check = {.name = "counts that do not fit: pass, also over a slot that is free already"};
@@ -240,7 +223,6 @@ static void test_tallies(struct report *report)
 void strange_books_by_hand(struct report *report)
 {
     test_counts_of_hearing(report);
-    test_counts_of_keep(report);
     test_counts_of_pass(report);
     test_counts_of_plan(report);
     test_now(report);

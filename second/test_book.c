@@ -8,6 +8,7 @@ int main(void)
     calls_by_hand(&report);
     marks_by_hand(&report);
     records_by_hand(&report);
+    rows_by_hand(&report);
     refusals_by_hand(&report);
     order_by_hand(&report);
     strange_books_by_hand(&report);

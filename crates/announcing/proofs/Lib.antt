@@ -1,4 +1,7 @@
-pub mod Booking
+pub mod Filling
+pub mod Ends
+pub mod Making
+pub mod Skipping
+pub mod Finding
 pub mod Holding
-pub mod Announcing
-pub mod Keeping
+pub mod Effect

@@ -1,2 +1,3 @@
-pub mod Acts
+pub mod Rows
+pub mod Next
 pub mod Announce

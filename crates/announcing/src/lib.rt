@@ -1,4 +1,6 @@
-// What a report announces, and its marks in the slot book. Promises: a state becomes the list of acts that specs/Announce.antt says in the paper's words,
-// `book_times` does them to the book, and `held_times` counts the slot times that are the station's then (specs/Acts.antt).
-pub mod announcement;
+// What a report announces, and its marks in the slot book. Promises: a state becomes the rows of slot times that specs/Announce.antt says in the
+// paper's words; `within` says whether they all lie in the book; `book_times` frees and marks each of their times once, in the order of time, and
+// counts those that are the station's then (specs/Rows.antt).
 pub mod marks;
+pub mod rows;
+pub mod times;

@@ -1,161 +1,115 @@
-// The times of an announcement are marked and freed in the book, and those that then are the station's are counted.
+// The times of rows are freed and marked in the book, each once, and those that then are the station's are counted.
 ghost use mathlib.Core.Path.{_≡_};
-ghost use Prim.Native.Nat.{_+_, _-_, _≤_, _<_};
+ghost use mathlib.Core.Bool.{true};
+ghost use Prim.Native.Nat.{ℕ, _+_, _<_};
 ghost use lib.Dec.{eqb};
 ghost use lib.ListN.{length, getD};
 ghost use Rattle.laws.specs.Counting.{one};
-ghost use Rattle.book.specs.Book.{slotTimes, records, place, bookOf};
-ghost use Rattle.announcing.specs.Acts.{acted, marked, marksFrom, heldOf};
-ghost use Rattle.announcing.specs.Announce.{frameAct, frameActs, actsAfter, actsOf};
-use crate::announcement::Announcement;
+ghost use Rattle.limits.specs.Limits.{slotTimes, records};
+ghost use Rattle.book.specs.Book.{Book, place, bookOf, markAt, freeAt};
+ghost use Rattle.announcing.specs.Rows.{marksTime, freesTime, atTimes, booked, heldOf, inBook};
+use crate::rows::ROWS;
+use crate::rows::Row;
+use crate::times::next_time;
 use book::Counts;
-use book::FRAME;
 use book::free;
 use book::mark;
 use book::place;
+use limits::SLOT_TIMES;
 
-// The time i + 1 frames ahead.
-fn frame_at(
-    book: &mut [u16],
-    tallies: &mut [u16],
-    c: Counts,
-    present: usize,
-    h: u16,
-    a: Announcement,
-    i: usize,
-) -> Counts
-    requires { ⌜ (length (now book) ≡ slotTimes) × (length (now tallies) ≡ records) × (i < 7) ⌝ }
-    ensures { λ r. ⌜ bookOf (now (book .exit)) (now (tallies .exit)) r ≡ acted present h (bookOf (now (book .entry)) (now (tallies .entry)) c) (frameAct a (i + 1)) ⌝ }
-{
-    let at = place(present, FRAME * (i + 1));
-    if i < a.frames as usize {
-        return mark(book, tallies, c, at, h);
-    }
-    if a.frees {
-        return free(book, tallies, c, at, h);
-    }
-    c
+// The book's counts, and how many times that were marked are the station's.
+pub struct Booked {
+    pub counts: Counts,
+    pub marks: usize,
 }
 
-// The seven frames after now.
-fn frames(
+fn free_times(
     book: &mut [u16],
     tallies: &mut [u16],
     c: Counts,
     present: usize,
     h: u16,
-    a: Announcement,
+    rows: [Row; ROWS],
 ) -> Counts
-    requires { ⌜ (length (now book) ≡ slotTimes) × (length (now tallies) ≡ records) ⌝ }
-    ensures { λ r. ⌜ bookOf (now (book .exit)) (now (tallies .exit)) r ≡ acted present h (bookOf (now (book .entry)) (now (tallies .entry)) c) (frameActs a 1 7) ⌝ }
-{
-    let mut d = c;
-    let mut i: usize = 0;
-    while i < 7 {
-        d = frame_at(book, tallies, d, present, h, a, i);
-        i += 1;
-    }
-    d
-}
-
-// n slot times from d ahead on are marked.
-fn block(
-    book: &mut [u16],
-    tallies: &mut [u16],
-    c: Counts,
-    present: usize,
-    h: u16,
-    d: usize,
-    n: usize,
-) -> Counts
-    requires { ⌜ (length (now book) ≡ slotTimes) × (length (now tallies) ≡ records) × (n ≤ slotTimes - d) ⌝ }
-    ensures { λ r. ⌜ bookOf (now (book .exit)) (now (tallies .exit)) r ≡ acted present h (bookOf (now (book .entry)) (now (tallies .entry)) c) (marksFrom d n) ⌝ }
+    requires { ⌜ (length (now book) ≡ slotTimes) × (length (now tallies) ≡ records) × (inBook rows ≡ true) ⌝ }
+    ensures { λ r. ⌜ bookOf (now (book .exit)) (now (tallies .exit)) r ≡ atTimes (freesTime rows) (λ (b : Book) (d : ℕ). freeAt b (place present d) h) (bookOf (now (book .entry)) (now (tallies .entry)) c) ⌝ }
 {
     let mut e = c;
-    for i in 0..n {
-        let at = place(present, d + i);
-        e = mark(book, tallies, e, at, h);
+    let mut d = next_time(rows, 0, false);
+    while d < SLOT_TIMES {
+        let at = place(present, d);
+        e = free(book, tallies, e, at, h);
+        d = next_time(rows, d + 1, false);
     }
     e
 }
 
-pub fn book_times(
-    book: &mut [u16],
-    tallies: &mut [u16],
-    c: Counts,
-    present: usize,
-    h: u16,
-    a: Announcement,
-) -> Counts
-    requires { ⌜ (length (now book) ≡ slotTimes) × (length (now tallies) ≡ records) × (a .slots ≤ slotTimes - a .from) ⌝ }
-    ensures { λ r. ⌜ bookOf (now (book .exit)) (now (tallies .exit)) r ≡ acted present h (bookOf (now (book .entry)) (now (tallies .entry)) c) (actsOf a) ⌝ }
+// 1 where h holds the place.
+fn held(book: &[u16], at: usize, h: u16) -> usize
+    requires { ⌜ at < length (now book) ⌝ }
+    ensures { λ r. ⌜ r ≡ one (eqb (getD (now (book .entry)) at 0) h) ⌝ }
 {
-    let d = frames(book, tallies, c, present, h, a);
-    block(book, tallies, d, present, h, a.from, a.slots)
-}
-
-// ---- counted
-
-// 1 where h holds the time d ahead.
-fn held_at(book: &[u16], present: usize, h: u16, d: usize) -> usize
-    requires { ⌜ (length (now book) ≡ slotTimes) × (d < slotTimes) ⌝ }
-    ensures { λ r. ⌜ r ≡ one (eqb (getD (now (book .entry)) (place present d) 0) h) ⌝ }
-{
-    let at = place(present, d);
     if book[at] == h {
         return 1;
     }
     0
 }
 
-// 1 where the time i + 1 frames ahead was marked, is not marked again by the block, and is the station's.
-fn held_frame(book: &[u16], present: usize, h: u16, a: Announcement, i: usize) -> usize
-    requires { ⌜ (length (now book) ≡ slotTimes) × (i < 7) ⌝ }
-    ensures { λ r. ⌜ (r ≤ 1) × (r + heldOf present h (now (book .entry)) (marked (actsAfter a (i + 1))) ≡ heldOf present h (now (book .entry)) (marked (actsAfter a i))) ⌝ }
+// The time d ahead is marked, and counted if it is the station's then.
+fn mark_one(
+    book: &mut [u16],
+    tallies: &mut [u16],
+    b: Booked,
+    present: usize,
+    h: u16,
+    d: usize,
+) -> Booked
+    requires { ⌜ (length (now book) ≡ slotTimes) × (length (now tallies) ≡ records) × (d < slotTimes) × (b .marks < slotTimes) ⌝ }
+    ensures { λ r. ⌜ (bookOf (now (book .exit)) (now (tallies .exit)) (r .counts) ≡ markAt (bookOf (now (book .entry)) (now (tallies .entry)) (b .counts)) (place present d) h) × (r .marks ≡ b .marks + one (eqb (getD (now (book .exit)) (place present d) 0) h)) ⌝ }
 {
-    let d = FRAME * (i + 1);
-    if i >= a.frames as usize {
-        return 0;
+    let at = place(present, d);
+    let counts = mark(book, tallies, b.counts, at, h);
+    Booked {
+        counts,
+        marks: b.marks + held(book, at, h),
     }
-    if d < a.from {
-        return held_at(book, present, h, d);
-    }
-    if d - a.from < a.slots {
-        return 0;
-    }
-    held_at(book, present, h, d)
 }
 
-fn held_frames(book: &[u16], present: usize, h: u16, a: Announcement) -> usize
-    requires { ⌜ length (now book) ≡ slotTimes ⌝ }
-    ensures { λ r. ⌜ (r ≤ 7) × (r + heldOf present h (now (book .entry)) (marked (actsAfter a 7)) ≡ heldOf present h (now (book .entry)) (marked (actsOf a))) ⌝ }
+fn mark_times(
+    book: &mut [u16],
+    tallies: &mut [u16],
+    c: Counts,
+    present: usize,
+    h: u16,
+    rows: [Row; ROWS],
+) -> Booked
+    requires { ⌜ (length (now book) ≡ slotTimes) × (length (now tallies) ≡ records) × (inBook rows ≡ true) ⌝ }
+    ensures { λ r. ⌜ (bookOf (now (book .exit)) (now (tallies .exit)) (r .counts) ≡ atTimes (marksTime rows) (λ (b : Book) (d : ℕ). markAt b (place present d) h) (bookOf (now (book .entry)) (now (tallies .entry)) c)) × (r .marks ≡ heldOf present h (now (book .exit)) rows) ⌝ }
 {
-    let mut n: usize = 0;
-    let mut i: usize = 0;
-    while i < 7 {
-        n += held_frame(book, present, h, a, i);
-        i += 1;
+    let mut b = Booked {
+        counts: c,
+        marks: 0,
+    };
+    let mut d = next_time(rows, 0, true);
+    while d < SLOT_TIMES {
+        b = mark_one(book, tallies, b, present, h, d);
+        d = next_time(rows, d + 1, true);
     }
-    n
+    b
 }
 
-fn held_block(book: &[u16], present: usize, h: u16, d: usize, n: usize) -> usize
-    requires { ⌜ (length (now book) ≡ slotTimes) × (n ≤ slotTimes - d) ⌝ }
-    ensures { λ r. ⌜ (r ≤ n) × (r ≡ heldOf present h (now (book .entry)) (marked (marksFrom d n))) ⌝ }
+// What the rows free is freed, and then what they mark is marked.
+pub fn book_times(
+    book: &mut [u16],
+    tallies: &mut [u16],
+    c: Counts,
+    present: usize,
+    h: u16,
+    rows: [Row; ROWS],
+) -> Booked
+    requires { ⌜ (length (now book) ≡ slotTimes) × (length (now tallies) ≡ records) × (inBook rows ≡ true) ⌝ }
+    ensures { λ r. ⌜ (bookOf (now (book .exit)) (now (tallies .exit)) (r .counts) ≡ booked present h rows (bookOf (now (book .entry)) (now (tallies .entry)) c)) × (r .marks ≡ heldOf present h (now (book .exit)) rows) ⌝ }
 {
-    let mut m: usize = 0;
-    for i in 0..n {
-        m += held_at(book, present, h, d + i);
-    }
-    m
-}
-
-// How many different times of the announcement are the station's.
-pub fn held_times(book: &[u16], present: usize, h: u16, a: Announcement) -> usize
-    requires { ⌜ (length (now book) ≡ slotTimes) × (a .slots ≤ slotTimes - a .from) ⌝ }
-    ensures { λ r. ⌜ r ≡ heldOf present h (now (book .entry)) (marked (actsOf a)) ⌝ }
-{
-    let n = held_frames(book, present, h, a);
-    let m = held_block(book, present, h, a.from, a.slots);
-    n + m
+    let e = free_times(book, tallies, c, present, h, rows);
+    mark_times(book, tallies, e, present, h, rows)
 }

@@ -14,7 +14,7 @@ use lib.ListN.{length, getD, take, drop, length-take, length-drop, take-append-d
 use lib.Pow.{pow-mono, shr-shr, mod-pow-add, high}
 use lib.Seq.{take-all, drop-drop, take-add}
 use Rattle.laws.specs.Tests.{both}
-use Rattle.laws.proofs.Tests.{both-left, both-right, both-no}
+use Rattle.laws.proofs.Tests.{both-left, both-right, both-no, both-yes}
 use Rattle.laws.proofs.Lists.{next}
 use Rattle.bits.specs.Bits.{lowFirst, highFirst, lowValue, highValue, allBits}
 
@@ -53,15 +53,15 @@ pub allBits-append : (xs ys : List ℕ) → allBits xs ≡ true → allBits ys �
 allBits-append [] ys e f = f
 allBits-append (x ∷ xs) ys e f = allBits-more x (xs ++ ys) (bit-head x xs e) ∙ allBits-append xs ys (bit-tail x xs e) f
 
+pub both-both : (a b c : Bool) → both a (both b c) ≡ both (both a b) c
+both-both true b c = refl
+both-both false b c = refl
+
 -- a list by blocks, of which the last may overlap
 allBits-split : (xs ys : List ℕ) → allBits (xs ++ ys) ≡ both (allBits xs) (allBits ys)
 unfolding allBits
 allBits-split [] ys = refl
-allBits-split (x ∷ xs) ys = ap (both (leb x 1)) (allBits-split xs ys) ∙ regroup (leb x 1) (allBits xs) (allBits ys)
-  where
-    regroup : (a b c : Bool) → both a (both b c) ≡ both (both a b) c
-    regroup true b c = refl
-    regroup false b c = refl
+allBits-split (x ∷ xs) ys = ap (both (leb x 1)) (allBits-split xs ys) ∙ both-both (leb x 1) (allBits xs) (allBits ys)
 
 allBits-parts : (n : ℕ) (l : List ℕ) → allBits l ≡ both (allBits (take n l)) (allBits (drop n l))
 allBits-parts n l = ap allBits (sym (take-append-drop n l)) ∙ allBits-split (take n l) (drop n l)
@@ -99,11 +99,7 @@ upTo-same most b bs h = go (leb most 1) refl
 
 pub upTo-end : (most : ℕ) → upTo most [] ≡ leb most 1
 unfolding allBits
-upTo-end most = go (leb most 1)
-  where
-    go : (t : Bool) → both t true ≡ t
-    go true = refl
-    go false = refl
+upTo-end most = both-yes (leb most 1)
 
 -- ---- the bits of a number
 

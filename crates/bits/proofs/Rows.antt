@@ -15,12 +15,12 @@ use lib.Pow.{pow-add, pow-mono, shl-exact, shl-shr, shr-lt, shr-mono, high, low}
 use lib.Seq.{take-at, drop-at, drop-drop, take-add, take-append-le, drop-append-le, length-take-le}
 use Rattle.laws.specs.Tests.{both}
 use Rattle.laws.specs.Lists.{over, AllBytes}
-use Rattle.laws.proofs.Tests.{of-true, both-left, both-right}
+use Rattle.laws.proofs.Tests.{of-true, both-left, both-right, both-yes}
 use Rattle.bits.specs.Bits.{highFirst, highValue, allBits, eights}
 use Rattle.bits.specs.Field.{bitsOf, packed, fieldOf, spliced, putField}
 use Rattle.bits.specs.Row.{laid, widthOf, allFit, layOver, rowAt, widthsOf, fourRow, joinedFour}
 use Rattle.bits.specs.declared.reader.Four.{Four}
-use Rattle.bits.proofs.Bits.{allBits-end, allBits-append, allBits-take, allBits-drop, high-bits, length-highFirst, high-append, high-low, high-back}
+use Rattle.bits.proofs.Bits.{both-both, allBits-end, allBits-append, allBits-take, allBits-drop, high-bits, length-highFirst, high-append, high-low, high-back}
 use Rattle.bits.proofs.Bytes.{length-eights}
 use Rattle.bits.proofs.Fields.{length-bits, bits-are, bits-append, bits-packed, packed-bits, field-there}
 
@@ -51,10 +51,6 @@ laid-bits (f ∷ fs) = allBits-append (highFirst (f .0) (f .1)) (laid fs) (high-
 pub both-fit : (w v : ℕ) (fs : List (ℕ × ℕ)) → allFit ((w, v) ∷ fs) ≡ true → (v < 2 ^ w) × (allFit fs ≡ true)
 unfolding allFit
 both-fit w v fs e = (ltb→lt v (2 ^ w) (of-true (both-left (ltb v (2 ^ w)) (allFit fs) e)), both-right (ltb v (2 ^ w)) (allFit fs) e)
-
-both-both : (a b c : Bool) → both a (both b c) ≡ both (both a b) c
-both-both true b c = refl
-both-both false b c = refl
 
 pub fit-append : (fs gs : List (ℕ × ℕ)) → allFit (fs ++ gs) ≡ both (allFit fs) (allFit gs)
 unfolding allFit
@@ -163,11 +159,7 @@ shifted-zero v w = go (decLt v (2 ^ w))
         ne-eqb (v / 2 ^ w) 0 (λ e. omega arith) ∙ sym (le-ltb v (2 ^ w) (omega arith))
 
 four-both : (x y z u : Bool) → both (both x y) (both z u) ≡ both x (both y (both z (both u true)))
-four-both true true true true = refl
-four-both true true true false = refl
-four-both true true false u = refl
-four-both true false z u = refl
-four-both false y z u = refl
+four-both x y z u = sym (ap (λ (t : Bool). both x (both y (both z t))) (both-yes u) ∙ both-both x y (both z u))
 
 pub four-fit : (f : Four) (a b c d : ℕ) → eqb (f .a / 2 ^ a + f .b / 2 ^ b + (f .c / 2 ^ c + f .d / 2 ^ d)) 0 ≡ allFit (fourRow f a b c d)
 unfolding allFit

@@ -6,6 +6,7 @@ use Prim.Native.Nat.{ℕ, _≤_, _<_}
 use borrow.Author.Tests.{le-leb, lt-leb}
 use lib.IntN.{ℤ}
 use lib.ListN.{length}
+use Rattle.limits.specs.Limits.{messageBytes, listPlaces}
 use Rattle.numbers.specs.declared.Refusal.the-variants.{NoRoom, MessageLength}
 use Rattle.message.specs.Message.{receivedNumber, writtenNumber, readAnswer, writeAnswer, writeOut, Writes}
 use Rattle.message.specs.declared.Message.{Message}
@@ -18,13 +19,13 @@ use Rattle.board.specs.Messages.{listAnswer, listOut, listCount, ReadsMe
 
 -- ---- reading
 
-pub list-room : (l : List ℕ) (room : ℕ) → room < 21 → Refused NoRoom ≡ listAnswer l room
+pub list-room : (l : List ℕ) (room : ℕ) → room < listPlaces → Refused NoRoom ≡ listAnswer l room
 unfolding listAnswer
-list-room l room h = simp (lt-leb 21 room h)
+list-room l room h = simp (lt-leb listPlaces room h)
 
-pub list-read : (l : List ℕ) (room : ℕ) → 21 ≤ room → {x : Received} → x ≡ readAnswer l → x ≡ listAnswer l room
+pub list-read : (l : List ℕ) (room : ℕ) → listPlaces ≤ room → {x : Received} → x ≡ readAnswer l → x ≡ listAnswer l room
 unfolding listAnswer
-list-read l room h e = e ∙ simp (le-leb 21 room h)
+list-read l room h e = e ∙ simp (le-leb listPlaces room h)
 
 pub listed : (l : List ℕ) (fields : List ℤ) (count : ℕ) (x : Received) → x ≡ listAnswer l (length fields) → {k n : ℕ} {o : List ℤ}
     → k ≡ receivedNumber x → o ≡ listOut x fields → n ≡ listCount x count → ReadsMessageC l fields count k o n
@@ -32,24 +33,24 @@ listed l fields count x e ek eo en = (ek ∙ ap receivedNumber e, eo ∙ ap (λ 
 
 -- ---- writing
 
-pub said-room : (fields : List ℤ) (room : ℕ) → room < 21 → NotWritten NoRoom ≡ saidAnswer fields room
+pub said-room : (fields : List ℤ) (room : ℕ) → room < messageBytes → NotWritten NoRoom ≡ saidAnswer fields room
 unfolding saidAnswer
-said-room fields room h = simp (lt-leb 21 room h)
+said-room fields room h = simp (lt-leb messageBytes room h)
 
-pub said-short : (fields : List ℤ) (room : ℕ) → 21 ≤ room → length fields < 21 → NotWritten MessageLength ≡ saidAnswer fields room
+pub said-short : (fields : List ℤ) (room : ℕ) → messageBytes ≤ room → length fields < listPlaces → NotWritten MessageLength ≡ saidAnswer fields room
 unfolding saidAnswer
-said-short fields room h k = simp (le-leb 21 room h, lt-leb 21 (length fields) k)
+said-short fields room h k = simp (le-leb messageBytes room h, lt-leb listPlaces (length fields) k)
 
-pub said-written : (fields : List ℤ) (room : ℕ) → 21 ≤ room → 21 ≤ length fields → writeAnswer (messageIn fields) room ≡ saidAnswer fields room
+pub said-written : (fields : List ℤ) (room : ℕ) → messageBytes ≤ room → listPlaces ≤ length fields → writeAnswer (messageIn fields) room ≡ saidAnswer fields room
 unfolding saidAnswer
-said-written fields room h k = simp (le-leb 21 room h, le-leb 21 (length fields) k)
+said-written fields room h k = simp (le-leb messageBytes room h, le-leb listPlaces (length fields) k)
 
 pub refused : (fields : List ℤ) (out : List ℕ) (x : Written) → x ≡ saidAnswer fields (length out) → {k : ℕ}
     → k ≡ writtenNumber x → out ≡ writeOut x (messageIn fields) out → WritesMessageC fields out k out
 refused fields out x e ek eo = (ek ∙ ap writtenNumber e, eo ∙ ap (λ (a : Written). writeOut a (messageIn fields) out) e)
 
 -- what `write` left, for the message that the list says
-pub handed : (fields : List ℤ) (out : List ℕ) → 21 ≤ length out → 21 ≤ length fields → {m : Message} → m ≡ messageIn fields → {a x : Written} {o : List ℕ}
+pub handed : (fields : List ℤ) (out : List ℕ) → messageBytes ≤ length out → listPlaces ≤ length fields → {m : Message} → m ≡ messageIn fields → {a x : Written} {o : List ℕ}
     → Writes m out a o → a ≡ x → {k : ℕ} → k ≡ writtenNumber x → WritesMessageC fields out k o
 handed fields out h j em {a} w f ek =
     let e = w .0 ∙ ap (λ (m : Message). writeAnswer m (length out)) em ∙ said-written fields (length out) h j in

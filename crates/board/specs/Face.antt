@@ -5,17 +5,17 @@ use mathlib.Core.Path.{_≡_}
 use mathlib.Core.List.{List}
 use lib.ListN.{length}
 use Rattle.packet.specs.Packet.{writtenNumber, writeAnswer, writeOut, receivedNumber, bodyOf, frameIn, readAnswer, readOut}
-use Rattle.packet.specs.declared.Written.{Written}
-use Rattle.packet.specs.declared.Written.the-variants.{Bits, Refused as NotWritten}
-use Rattle.packet.specs.declared.Received.{Received}
-use Rattle.packet.specs.declared.Received.the-variants.{Bytes, Refused}
+use Rattle.packet.specs.declared.Packed.{Packed}
+use Rattle.packet.specs.declared.Packed.the-variants.{Bits, Refused as NotWritten}
+use Rattle.packet.specs.declared.Unpacked.{Unpacked}
+use Rattle.packet.specs.declared.Unpacked.the-variants.{Bytes, Refused}
 
 -- a count is so many bits or bytes, or what it was where the call is refused
-abbrev pub writtenCount : Written → ℕ → ℕ
+abbrev pub writtenCount : Packed → ℕ → ℕ
 writtenCount (Bits n) count = n
 writtenCount (NotWritten r) count = count
 
-abbrev pub receivedCount : Received → ℕ → ℕ
+abbrev pub receivedCount : Unpacked → ℕ → ℕ
 receivedCount (Bytes n) count = n
 receivedCount (Refused r) count = count
 

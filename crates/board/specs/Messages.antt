@@ -8,6 +8,7 @@ use lib.Dec.{leb}
 use lib.ListN.{length}
 use Rattle.laws.specs.Tests.{ladder}
 use Rattle.laws.specs.Lists.{over}
+use Rattle.limits.specs.Limits.{messageBytes, listPlaces}
 use Rattle.numbers.specs.declared.Refusal.the-variants.{NoRoom, MessageLength}
 use Rattle.message.specs.Message.{receivedNumber, writtenNumber, readAnswer, writeAnswer, writeOut}
 use Rattle.message.specs.declared.Received.{Received}
@@ -19,7 +20,7 @@ use Rattle.listing.specs.Listing.{numbersOf, messageIn}
 -- ---- reading: 12, and what the message layer gives
 
 unfoldable pub listAnswer : List ℕ → ℕ → Received
-listAnswer l room = ladder ((leb 21 room, Refused NoRoom) ∷ []) (readAnswer l)
+listAnswer l room = ladder ((leb listPlaces room, Refused NoRoom) ∷ []) (readAnswer l)
 
 abbrev pub listOut : Received → List ℤ → List ℤ
 listOut (Got m) fields = over (numbersOf m) fields
@@ -38,7 +39,7 @@ ReadsMessageC l fields count r fields′ count′ =
 -- ---- writing: 12, 17, and what the message layer gives
 
 unfoldable pub saidAnswer : List ℤ → ℕ → Written
-saidAnswer fields room = ladder ((leb 21 room, NotWritten NoRoom) ∷ (leb 21 (length fields), NotWritten MessageLength) ∷ []) (writeAnswer (messageIn fields) room)
+saidAnswer fields room = ladder ((leb messageBytes room, NotWritten NoRoom) ∷ (leb listPlaces (length fields), NotWritten MessageLength) ∷ []) (writeAnswer (messageIn fields) room)
 
 abbrev pub WritesMessageC : List ℤ → List ℕ → ℕ → List ℕ → Type 0
 WritesMessageC fields out r out′ =

@@ -4,8 +4,8 @@ pub mod messages;
 
 ghost use Rattle.board.specs.Face.{WritesC, ReadsC};
 use numbers::number;
-use packet::Received;
-use packet::Written;
+use packet::Packed;
+use packet::Unpacked;
 use packet::read;
 use packet::write;
 
@@ -15,11 +15,11 @@ pub extern "C" fn qs_packet_write(payload: &[u8], bits: &mut [u8], count: &mut u
 {
     let answer = write(payload, bits);
     match answer {
-        Written::Bits(n) => {
+        Packed::Bits(n) => {
             *count = n as u32;
             0
         }
-        Written::Refused(r) => number(r),
+        Packed::Refused(r) => number(r),
     }
 }
 
@@ -29,10 +29,10 @@ pub extern "C" fn qs_packet_read(bits: &[u8], payload: &mut [u8], count: &mut u3
 {
     let answer = read(bits, payload);
     match answer {
-        Received::Bytes(n) => {
+        Unpacked::Bytes(n) => {
             *count = n as u32;
             0
         }
-        Received::Refused(r) => number(r),
+        Unpacked::Refused(r) => number(r),
     }
 }

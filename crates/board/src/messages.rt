@@ -1,5 +1,7 @@
 // Messages: read into a list of numbers, and written of one.
 ghost use Rattle.board.specs.Messages.{ReadsMessageC, WritesMessageC};
+use limits::LIST_PLACES;
+use limits::MESSAGE;
 use listing::message_in;
 use listing::putting::list;
 use message::Written;
@@ -13,7 +15,7 @@ use numbers::number;
 pub extern "C" fn qs_message_read(message: &[u8], fields: &mut [i32], count: &mut u32) -> u32
     ensures { λ r. ⌜ ReadsMessageC (now (message .entry)) (now (fields .entry)) (now (count .entry)) r (now (fields .exit)) (now (count .exit)) ⌝ }
 {
-    if fields.len() < 21 {
+    if fields.len() < LIST_PLACES {
         return number(Refusal::NoRoom);
     }
     let first = head_of(message);
@@ -30,10 +32,10 @@ pub extern "C" fn qs_message_read(message: &[u8], fields: &mut [i32], count: &mu
 pub extern "C" fn qs_message_write(fields: &[i32], message: &mut [u8]) -> u32
     ensures { λ r. ⌜ WritesMessageC (now (fields .entry)) (now (message .entry)) r (now (message .exit)) ⌝ }
 {
-    if message.len() < 21 {
+    if message.len() < MESSAGE {
         return number(Refusal::NoRoom);
     }
-    if fields.len() < 21 {
+    if fields.len() < LIST_PLACES {
         return number(Refusal::MessageLength);
     }
     let answer = write(message_in(fields), message);

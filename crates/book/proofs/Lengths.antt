@@ -7,7 +7,8 @@ use lib.Dec.{eqb}
 use lib.ListN.{length, drop, length-set, length-take, length-drop}
 use Rattle.laws.proofs.Tests.{pick-has}
 use Rattle.laws.proofs.Upto.{upto-keeps}
-use Rattle.book.specs.Book.{Book, slotTimes, records, holders, raised, lowered, holder, kept, talliesOf, putAt, markAt, freeAt, released}
+use Rattle.limits.specs.Limits.{slotTimes, records}
+use Rattle.book.specs.Book.{Book, holders, raised, lowered, holder, kept, talliesOf, putAt, markAt, freeAt, released}
 use Rattle.book.specs.Pass.{Moment, passed, passes}
 use Rattle.book.proofs.Soundness.{length-alter}
 

@@ -6,8 +6,9 @@ use Prim.Native.Nat.{ℕ, zero, suc}
 use native.Mathlib.Omega.{arith}
 use lib.ListN.{length, getD, take, drop}
 use lib.Seq.{take-at, getD-at}
+use Rattle.limits.specs.Limits.{records}
 use Rattle.book.specs.declared.Counts.{Counts}
-use Rattle.book.specs.Book.{Book, records, ours, holders, bookOf, countsOf, talliesOf}
+use Rattle.book.specs.Book.{Book, ours, holders, bookOf, countsOf, talliesOf}
 use Rattle.book.specs.Promises.{BookOnce}
 
 module _ (s t : List ℕ) (c : Counts) (l : length t ≡ records) where

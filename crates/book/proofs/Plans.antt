@@ -4,19 +4,20 @@ use mathlib.Core.Path.{_≡_, ap₂, _∙_}
 use mathlib.Core.Bool.{Bool, true, false}
 use mathlib.Core.Logic.{_↔_}
 use mathlib.Core.List.{List}
-use Prim.Native.Nat.{ℕ}
+use Prim.Native.Nat.{ℕ, _-_}
 use native.Mathlib.Omega.{arith}
 use borrow.Author.Tests.{le-leb, leb-true}
 use lib.Dec.{T, leb}
 use lib.ListN.{length}
 use Rattle.laws.specs.Tests.{between}
 use Rattle.laws.proofs.Tests.{both-left, both-right, between-yes, between-is, not-true}
+use Rattle.limits.specs.Limits.{frameSlots, records, mostRate}
 use Rattle.numbers.specs.declared.Refusal.the-variants.{OtherLength, OutOfRange}
 use Rattle.plan.specs.declared.Plan.{Plan}
 use Rattle.plan.specs.Plan.{InRange}
 use Rattle.book.specs.declared.Counts.{Counts}
 use Rattle.book.specs.declared.planning.Planned.the-variants.{Done, Refused}
-use Rattle.book.specs.Book.{records, bookOf, countsOf}
+use Rattle.book.specs.Book.{bookOf, countsOf}
 use Rattle.book.specs.Sizes.{sized}
 use Rattle.book.specs.Planning.{planFits, planTests, replanned, planAnswer, Plans}
 use Rattle.book.proofs.Once.{slots-are, tallies-are, counts-are}
@@ -25,15 +26,15 @@ use Rattle.book.proofs.Once.{slots-are, tallies-are, counts-are}
 pub in-range : (p : Plan) → planFits (p .rate) (p .start) ≡ true → InRange p
 unfolding planFits
 in-range p e =
-    let r = between-is 1 30 (p .rate) (both-left (between 1 30 (p .rate)) (leb (p .start) 2249) e) in
-    let h = leb-true (p .start) 2249 (both-right (between 1 30 (p .rate)) (leb (p .start) 2249) e) in
+    let r = between-is 1 mostRate (p .rate) (both-left (between 1 mostRate (p .rate)) (leb (p .start) (frameSlots - 1)) e) in
+    let h = leb-true (p .start) (frameSlots - 1) (both-right (between 1 mostRate (p .rate)) (leb (p .start) (frameSlots - 1)) e) in
     record { some = omega (arith, r .0); most = omega (arith, r .1); starts = omega (arith, h) }
 
 -- what the test of a changed plan says
 module _ (p : Plan) (rate start : ℕ) (e : p .rate ≡ rate) (f : p .start ≡ start) where
   fits : InRange p → planFits rate start ≡ true
   unfolding planFits
-  fits g = simp (between-yes 1 30 rate (omega (arith, g .some)) (omega (arith, g .most)), le-leb start 2249 (omega (arith, g .starts)))
+  fits g = simp (between-yes 1 mostRate rate (omega (arith, g .some)) (omega (arith, g .most)), le-leb start (frameSlots - 1) (omega (arith, g .starts)))
 
   pub fits-is : (r : Bool) → T r ↔ InRange p → planFits rate start ≡ r
   fits-is true g = fits (g .0 tt)

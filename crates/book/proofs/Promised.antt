@@ -1,7 +1,7 @@
 -- The call that sets a new plan: one answer, each number exactly when, and that demand 3 stays while every own mark goes.
 -- Assumes nothing.
 use mathlib.Core.Path.{_≡_, refl, sym, ap, subst, _∙_}
-use mathlib.Core.List.{List}
+use mathlib.Core.List.{List, [], _∷_}
 use Prim.Native.Nat.{ℕ, zero, suc, _≤_, _<_}
 use native.Mathlib.Decide.{ℕ-discrete}
 use native.Mathlib.Omega.{arith}
@@ -10,13 +10,14 @@ use lib.ListN.{length, getD, set}
 use lib.Seq.{getD-set-same, getD-set-other}
 use Rattle.laws.specs.Loops.{upto}
 use Rattle.laws.proofs.Counting.{count-none}
-use Rattle.laws.proofs.Ladder.{exactly, passed, all-through}
+use Rattle.laws.proofs.Ladder.{all-through, by-tests}
 use Rattle.laws.proofs.Unique.{unique}
+use Rattle.limits.specs.Limits.{slotTimes}
 use Rattle.book.specs.declared.Counts.{Counts}
 use Rattle.book.specs.declared.planning.Replanned.{Replanned}
 use Rattle.book.specs.declared.planning.Planned.{Planned}
 use Rattle.book.specs.declared.planning.Planned.the-variants.{Done, Refused}
-use Rattle.book.specs.Book.{Book, slotTimes, ours, holders, holder, bookOf, countsOf, putAt, freeAt, released}
+use Rattle.book.specs.Book.{Book, ours, holders, holder, bookOf, countsOf, putAt, freeAt, released}
 use Rattle.book.specs.Planning.{plannedNumber, planTests, replanned, planAnswer, planLeft, Plans}
 use Rattle.book.specs.Sound.{Sound}
 use Rattle.book.specs.Promises.{PlanKeeps, PlanLeavesNone, PlanOnce, PlanExactly}
@@ -31,16 +32,11 @@ plan-once s t c rate start r r′ s₁ t₁ s₂ t₂ p q =
     let u = unique (planLeft s t c) p q in
     (u .0, ap (λ (x : List ℕ × List ℕ). x .0) (u .1), ap (λ (x : List ℕ × List ℕ). x .1) (u .1))
 
-pub plan-exactly : (s t : List ℕ) (c : Counts) (rate start : ℕ) → PlanExactly s t c rate start
+pub plan-exactly : PlanExactly
 unfolding planAnswer planTests
 plan-exactly s t c rate start =
-    let ts = planTests s t rate start in
     let d = Done (record { counts = countsOf (replanned s t c); plan = record { rate = rate; start = start } }) in
-    record {
-      given-20 = exactly plannedNumber 20 0 ts d tt (λ e. omega arith);
-      given-30 = exactly plannedNumber 30 1 ts d tt (λ e. omega arith);
-      given-0 = passed plannedNumber 0 ts d tt refl;
-    }
+    by-tests (20 ∷ 30 ∷ []) plannedNumber (planTests s t rate start) d refl tt refl
 
 -- ---- the book that a new plan leaves
 
@@ -55,7 +51,7 @@ module _ (s t : List ℕ) (c : Counts) (rate start : ℕ) (d : Replanned) (s′ 
 
   answered : d ≡ made
   unfolding planAnswer made within
-  answered = ap within (p .0 ∙ all-through (planTests s t rate start) (Done made) (plan-exactly s t c rate start .given-0 .0 (sym (ap plannedNumber (p .0)))))
+  answered = ap within (p .0 ∙ all-through (planTests s t rate start) (Done made) (plan-exactly s t c rate start .none .0 (sym (ap plannedNumber (p .0)))))
 
   book-left : length (replanned s t c .tallies) ≡ holders → bookOf s′ t′ (d .counts) ≡ replanned s t c
   unfolding made

@@ -8,7 +8,7 @@ use borrow.Author.Tests.{eq-eqb, ne-eqb, eqb-true}
 use lib.Dec.{eqb}
 use lib.ListN.{length}
 use Rattle.laws.proofs.Tests.{both-right, both-no}
-use Rattle.book.specs.Book.{slotTimes, records}
+use Rattle.limits.specs.Limits.{slotTimes, records}
 use Rattle.book.specs.Sizes.{sized, allSized}
 
 -- of the book and the tallies

@@ -15,7 +15,8 @@ use Rattle.laws.proofs.Tests.{pick-has}
 use Rattle.laws.proofs.Upto.{upto-keeps}
 use Rattle.laws.proofs.Counting.{hit-same, hit-other, count-set, count-le, count-at, count-replicate, sum-sums, sums-count, sum-end}
 use Rattle.laws.proofs.Sums.{sums}
-use Rattle.book.specs.Book.{Book, slotTimes, records, holders, holder, kept, raised, lowered, alter, lower, raise, bookOf, putAt, markAt, freeAt}
+use Rattle.limits.specs.Limits.{slotTimes, records}
+use Rattle.book.specs.Book.{Book, holders, holder, kept, raised, lowered, alter, lower, raise, bookOf, putAt, markAt, freeAt}
 use Rattle.book.specs.Pass.{Moment, passed}
 use Rattle.book.specs.Sound.{Sound}
 use Rattle.book.specs.Promises.{newBook, NewIsSound, PutKeeps, MarkKeeps, FreeKeeps, ReleaseKeeps, PassKeeps, AllMakeTheWhole}

@@ -4,7 +4,8 @@ use mathlib.Core.Path.{_≡_}
 use Prim.Native.Nat.{ℕ, _+_, _%_}
 use mathlib.Core.Bool.{true, false}
 use borrow.Author.Tests.{eq-eqb, ne-eqb}
-use Rattle.book.specs.Book.{Book, slotTimes, ours, holder, kept, putAt, markAt, freeAt}
+use Rattle.limits.specs.Limits.{slotTimes}
+use Rattle.book.specs.Book.{Book, ours, holder, kept, putAt, markAt, freeAt}
 use Rattle.book.specs.Pass.{Moment, passed}
 
 pub kept-own : (x : ℕ) → x ≡ ours → kept x ≡ true

@@ -1,4 +1,4 @@
--- A change of one holder's tally, in the list of all 257 tallies and in the parts that the code keeps. `v` is the new number, as a callee
+-- A change of one holder's tally, in the list of all tallies and in the parts that the code keeps. `v` is the new number, as a callee
 -- gives it.
 -- Assumes nothing.
 use mathlib.Core.Path.{_≡_, sym, ap, _∙_}
@@ -7,7 +7,8 @@ use Prim.Native.Nat.{ℕ, suc, _-_, _<_}
 use native.Mathlib.Omega.{arith}
 use lib.ListN.{length, getD, set, length-append, List·getD-append}
 use lib.Seq.{set-append-left, set-at, getD-at, set-out}
-use Rattle.book.specs.Book.{records, ours, alter}
+use Rattle.limits.specs.Limits.{records}
+use Rattle.book.specs.Book.{ours, alter}
 
 module _ (f : ℕ → ℕ) (free own : ℕ) (t : List ℕ) (h v : ℕ) where
   pub alter-free : h ≡ 0 → v ≡ f free → v ∷ (t ++ own ∷ []) ≡ alter f (free ∷ (t ++ own ∷ [])) h

@@ -1,27 +1,21 @@
 -- The slot book: what a mark, a freeing and a release do to it.
 -- Assumes nothing.
 use Prim.Native.Nat.{ℕ, _+_, _-_, _%_, min, max}
-use mathlib.Core.Bool.{Bool}
+use mathlib.Core.Bool.{Bool, true, false}
 use mathlib.Core.List.{List, [], _∷_, _++_}
 use lib.ListN.{getD, set, take, drop}
 use lib.Dec.{eqb}
 use Rattle.laws.specs.Tests.{pick}
 use Rattle.laws.specs.Loops.{upto}
+use Rattle.limits.specs.Limits.{slotTimes, records}
 use Rattle.book.specs.declared.Counts.{Counts}
 
--- nine frames of 2250 slots
-abbrev pub slotTimes : ℕ
-slotTimes = 20250
-
--- the holders by their numbers: 0 none, 1 to 255 the records in order, 256 own
-abbrev pub records : ℕ
-records = 255
-
+-- the holders by their numbers: 0 none, then the records in order, then own
 abbrev pub ours : ℕ
-ours = 256
+ours = records + 1
 
 abbrev pub holders : ℕ
-holders = 257
+holders = records + 2
 
 -- ---- tallies
 
@@ -32,7 +26,11 @@ raised x = max x (min (x + 1) slotTimes)
 abbrev pub lowered : ℕ → ℕ
 lowered x = x - 1
 
--- the tallies of all 257 holders in one list, by their numbers: the free count, the records' tallies, the own tally
+abbrev pub stepOf : Bool → ℕ → ℕ
+stepOf true = raised
+stepOf false = lowered
+
+-- the tallies of all holders in one list, by their numbers: the free count, the records' tallies, the own tally
 abbrev pub wide : Counts → List ℕ → List ℕ
 wide c t = c .free ∷ (t ++ c .own ∷ [])
 

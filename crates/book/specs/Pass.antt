@@ -3,8 +3,9 @@
 use Prim.Native.Nat.{ℕ, _+_, _%_}
 use mathlib.Core.List.{List}
 use Rattle.laws.specs.Loops.{upto}
+use Rattle.limits.specs.Limits.{slotTimes}
 use Rattle.book.specs.declared.Standing.{Standing}
-use Rattle.book.specs.Book.{Book, slotTimes, bookOf, putAt}
+use Rattle.book.specs.Book.{Book, bookOf, putAt}
 
 -- the book, and now: the place of the present slot
 pub record Moment : Type 0 where

@@ -1,12 +1,13 @@
 -- The call that sets a new plan.
 -- Assumes nothing.
-use Prim.Native.Nat.{ℕ}
+use Prim.Native.Nat.{ℕ, _-_}
 use mathlib.Core.Path.{_≡_}
 use mathlib.Core.Bool.{Bool}
 use mathlib.Core.List.{List, [], _∷_}
 use lib.Dec.{leb}
 use lib.ListN.{length}
 use Rattle.laws.specs.Tests.{both, between, ladder}
+use Rattle.limits.specs.Limits.{frameSlots, mostRate}
 use Rattle.numbers.specs.declared.Refusal.the-variants.{OtherLength, OutOfRange}
 use Rattle.numbers.specs.Numbers.{numberOf}
 use Rattle.book.specs.declared.Counts.{Counts}
@@ -21,7 +22,7 @@ plannedNumber (Refused r) = numberOf r
 
 -- a plan of r reports from the slot s on can be
 unfoldable pub planFits : ℕ → ℕ → Bool
-planFits r s = both (between 1 30 r) (leb s 2249)
+planFits r s = both (between 1 mostRate r) (leb s (frameSlots - 1))
 
 unfoldable pub planTests : List ℕ → List ℕ → ℕ → ℕ → List (Bool × Planned)
 planTests s t rate start =

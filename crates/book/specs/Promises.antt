@@ -3,20 +3,19 @@
 -- Assumes nothing.
 use Prim.Native.Nat.{ℕ, _+_, _≤_, _<_}
 use mathlib.Core.Path.{_≡_}
-use mathlib.Core.Bool.{true, false}
-use mathlib.Core.Logic.{_↔_}
-use mathlib.Core.List.{List}
+use mathlib.Core.List.{List, [], _∷_}
 use lib.ListN.{length, replicate}
 use Rattle.laws.specs.Counting.{sum}
+use Rattle.laws.specs.Exactly.{Exactly}
+use Rattle.limits.specs.Limits.{slotTimes, records}
 use Rattle.book.specs.declared.Counts.{Counts}
 use Rattle.book.specs.declared.planning.Replanned.{Replanned}
 use Rattle.book.specs.declared.planning.Planned.{Planned}
 use Rattle.book.specs.declared.planning.Planned.the-variants.{Done}
-use Rattle.book.specs.Book.{Book, slotTimes, records, holders, place, bookOf, putAt, markAt, freeAt, released}
+use Rattle.book.specs.Book.{Book, holders, bookOf, putAt, markAt, freeAt, released}
 use Rattle.book.specs.Pass.{Moment, passes}
 use Rattle.book.specs.Sound.{Sound}
-use Rattle.book.specs.Sizes.{sized}
-use Rattle.book.specs.Planning.{plannedNumber, planFits, planAnswer, Plans}
+use Rattle.book.specs.Planning.{plannedNumber, planTests, planAnswer, Plans}
 
 -- ---- demand 3
 
@@ -71,8 +70,8 @@ PlanOnce =
     (s t : List ℕ) (c : Counts) (rate start : ℕ) (r r′ : Planned) (s₁ t₁ s₂ t₂ : List ℕ)
     → Plans s t c rate start r s₁ t₁ → Plans s t c rate start r′ s₂ t₂ → (r ≡ r′) × (s₁ ≡ s₂) × (t₁ ≡ t₂)
 
--- each number is given exactly when; 0 is none
-pub record PlanExactly (s t : List ℕ) (c : Counts) (rate start : ℕ) : Type 0 where
-  pub given-20 : (plannedNumber (planAnswer s t c rate start) ≡ 20) ↔ (sized s t ≡ false)
-  pub given-30 : (plannedNumber (planAnswer s t c rate start) ≡ 30) ↔ ((sized s t ≡ true) × (planFits rate start ≡ false))
-  pub given-0 : (plannedNumber (planAnswer s t c rate start) ≡ 0) ↔ ((sized s t ≡ true) × (planFits rate start ≡ true))
+-- each number is given exactly when
+abbrev pub PlanExactly : Type 0
+PlanExactly =
+    (s t : List ℕ) (c : Counts) (rate start : ℕ)
+    → Exactly (20 ∷ 30 ∷ []) plannedNumber (planTests s t rate start) (planAnswer s t c rate start)

@@ -6,7 +6,7 @@ use mathlib.Core.List.{List}
 use lib.Dec.{eqb}
 use lib.ListN.{length}
 use Rattle.laws.specs.Tests.{both}
-use Rattle.book.specs.Book.{slotTimes, records}
+use Rattle.limits.specs.Limits.{slotTimes, records}
 
 -- the book and the records' tallies
 unfoldable pub sized : List ℕ → List ℕ → Bool

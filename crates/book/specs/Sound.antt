@@ -4,7 +4,8 @@ use mathlib.Core.Path.{_≡_}
 use Prim.Native.Nat.{ℕ, _<_}
 use lib.ListN.{length, getD}
 use Rattle.laws.specs.Counting.{count}
-use Rattle.book.specs.Book.{Book, slotTimes, holders, holder}
+use Rattle.limits.specs.Limits.{slotTimes}
+use Rattle.book.specs.Book.{Book, holders, holder}
 
 -- a tally for each holder, 20,250 places that each name one of the holders, and each tally is the number of its holder's places
 pub record Sound (b : Book) : Type 0 where

@@ -7,22 +7,17 @@ pub mod tally;
 ghost use mathlib.Core.Path.{_≡_};
 ghost use Prim.Native.Nat.{_<_};
 ghost use lib.ListN.{length};
-ghost use Rattle.book.specs.Book.{slotTimes, records, place, bookOf, putAt, markAt, freeAt, released};
+ghost use Rattle.limits.specs.Limits.{slotTimes, records};
+ghost use Rattle.book.specs.Book.{place, bookOf, putAt, markAt, freeAt, released};
 ghost use Rattle.book.specs.Pass.{momentOf, passed, passes};
-use tally::gain;
-use tally::lose;
+use limits::RECORDS;
+use limits::SLOT_TIMES;
+use tally::change;
 
-// A frame is one minute; the book reaches nine frames ahead.
-pub const FRAME: usize = 2250;
-
-pub const SLOT_TIMES: usize = 20250;
-
-// A holder is none, one of the records by its number, 1 to 255, or we ourselves.
+// A holder is none, one of the records by its number, from 1 on, or we ourselves.
 pub const NONE: u16 = 0;
 
-pub const RECORDS: usize = 255;
-
-pub const OWN: u16 = 256;
+pub const OWN: u16 = RECORDS as u16 + 1;
 
 // The slot times that nobody holds, and those that are ours.
 pub struct Counts {
@@ -51,8 +46,8 @@ pub fn put(book: &mut [u16], tallies: &mut [u16], c: Counts, at: usize, h: u16) 
 {
     let old = book[at];
     book[at] = h;
-    let lost = lose(tallies, c, old);
-    gain(tallies, lost, h)
+    let lost = change(tallies, c, old, false);
+    change(tallies, lost, h, true)
 }
 
 // The place is marked for the station h, unless it is our own.

@@ -2,9 +2,9 @@
 ghost use Rattle.book.specs.Planning.{Plans};
 use crate::Counts;
 use crate::OWN;
-use crate::RECORDS;
-use crate::SLOT_TIMES;
 use crate::release;
+use limits::RECORDS;
+use limits::SLOT_TIMES;
 use numbers::Refusal;
 use plan::Plan;
 

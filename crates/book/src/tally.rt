@@ -2,15 +2,20 @@
 // else; a tally stops at 0 and at 20,250, and a number that is no holder has none.
 ghost use mathlib.Core.Path.{_≡_};
 ghost use lib.ListN.{length};
-ghost use Rattle.book.specs.Book.{records, raised, lowered, wide, lower, raise};
+ghost use Rattle.limits.specs.Limits.{records};
+ghost use Rattle.book.specs.Book.{raised, lowered, stepOf, wide, alter};
 use crate::Counts;
+use crate::NONE;
 use crate::OWN;
 
-// One more, stopping at 20,250. A number above it stays.
+// A tally stops at the number of slot times.
+const MOST: u16 = limits::SLOT_TIMES as u16;
+
+// One more, stopping there. A number above it stays.
 fn up(x: u16) -> u16
     ensures { λ r. ⌜ r ≡ raised x ⌝ }
 {
-    if x < 20250 { x + 1 } else { x }
+    if x < MOST { x + 1 } else { x }
 }
 
 // One less, stopping at 0.
@@ -20,51 +25,36 @@ fn down(x: u16) -> u16
     if x == 0 { 0 } else { x - 1 }
 }
 
-// The holder h has one slot time less.
-pub fn lose(tallies: &mut [u16], c: Counts, h: u16) -> Counts
-    requires { ⌜ length (now tallies) ≡ records ⌝ }
-    ensures { λ r. ⌜ wide r (now (tallies .exit)) ≡ lower (wide c (now (tallies .entry))) h ⌝ }
+// One more or one less.
+fn step(x: u16, more: bool) -> u16
+    ensures { λ r. ⌜ r ≡ stepOf more x ⌝ }
 {
-    if h == 0 {
-        return Counts {
-            free: down(c.free),
-            own: c.own,
-        };
+    if more {
+        return up(x);
     }
-    if h < OWN {
-        let k = (h - 1) as usize;
-        tallies[k] = down(tallies[k]);
-        return c;
-    }
-    if h == OWN {
-        return Counts {
-            free: c.free,
-            own: down(c.own),
-        };
-    }
-    c
+    down(x)
 }
 
-// The holder h has one slot time more.
-pub fn gain(tallies: &mut [u16], c: Counts, h: u16) -> Counts
+// The holder h has one slot time more or less.
+pub fn change(tallies: &mut [u16], c: Counts, h: u16, more: bool) -> Counts
     requires { ⌜ length (now tallies) ≡ records ⌝ }
-    ensures { λ r. ⌜ wide r (now (tallies .exit)) ≡ raise (wide c (now (tallies .entry))) h ⌝ }
+    ensures { λ r. ⌜ wide r (now (tallies .exit)) ≡ alter (stepOf more) (wide c (now (tallies .entry))) h ⌝ }
 {
-    if h == 0 {
+    if h == NONE {
         return Counts {
-            free: up(c.free),
+            free: step(c.free, more),
             own: c.own,
         };
     }
     if h < OWN {
         let k = (h - 1) as usize;
-        tallies[k] = up(tallies[k]);
+        tallies[k] = step(tallies[k], more);
         return c;
     }
     if h == OWN {
         return Counts {
             free: c.free,
-            own: up(c.own),
+            own: step(c.own, more),
         };
     }
     c

@@ -7,7 +7,7 @@ use native.Mathlib.Omega.{arith}
 use borrow.Author.Tests.{ne-eqb}
 use lib.ListN.{length, getD, length-map}
 use lib.Seq.{ext-getD}
-use Rattle.book.specs.Book.{records}
+use Rattle.limits.specs.Limits.{records}
 use Rattle.register.specs.declared.Station.{Station}
 use Rattle.register.specs.declared.Watch.{Watch}
 use Rattle.register.specs.declared.What.{What}
@@ -17,7 +17,7 @@ use Rattle.register.specs.declared.Order.{Order}
 use Rattle.register.specs.Register.{blank, tallyOf, reachIn, wordOf, holdAfter, changed, settle}
 use Rattle.register.specs.Sheet.{settledBy}
 use Rattle.register.proofs.Sheet.{length-numbered, map-at, settled-at}
-use Rattle.cores.specs.Core.{nothing, agedOrder}
+use Rattle.answering.specs.Answering.{nothing, agedOrder}
 use Rattle.calls.specs.Calls.{asked}
 
 -- ---- one record

@@ -35,6 +35,7 @@ use denote.Struct.Steps.{spelt}
 use denote.Array.{Array, array-vals, array-tells, array-copy}
 use denote.ArrayMemory.{Single, array-apart, array-whole}
 use denote.Index.{row}
+use Rattle.limits.specs.Limits.{records}
 
 module _ {M : Type 1} {𝓤 : URA M} {H : Heap 𝓤} {A : Atoms 𝓤} {K : Type 0} {W : Given 𝓤 H A} {Γ : List (Item 𝓤)} {G : Goal 𝓤 H} where
   pub opens-array : K → Soaks G → (E : RattleType) → Single (E .mir) → (n : ℕ) {κ : Lft} {q : Share} (xs : List (E .Denot)) {γ : GName} (b o : ℕ)
@@ -102,12 +103,12 @@ size-fits w32 = tt
 size-fits w64 = tt
 size-fits w128 = tt
 
-at-most : (w : Width) (j : ℕ) → j < 255 → j * size w ≤ 4096
+at-most : (w : Width) (j : ℕ) → j < records → j * size w ≤ 4096
 at-most w8 j l = omega arith
 at-most w16 j l = omega arith
 at-most w32 j l = omega arith
 at-most w64 j l = omega arith
 at-most w128 j l = omega arith
 
-pub few : (w : Width) (j : ℕ) → j < 255 → j * size w < 2 ^ 64
+pub few : (w : Width) (j : ℕ) → j < records → j * size w < 2 ^ 64
 few w j l = lt-of-le-of-lt (at-most w j l) (lit< tt)

@@ -33,6 +33,7 @@ use denote.Triple.Statement.{Triple}
 use denote.Triple.Spec.{Meets}
 use denote.Triple.Clauses.{closing}
 use denote.Triple.Walked.{Walks, walked, goes-slice, goes-dropped, walk-meets}
+use Rattle.limits.specs.Limits.{records}
 use Rattle.register.specs.declared.Station.{Station}
 use Rattle.register.proofs.Sheet.{no-second}
 use Rattle.calls.proofs.Datum.{Datum, row, Law}
@@ -79,7 +80,7 @@ module _ (Z : Datum) (ZL : Law Z) (S : Z .D → ℕ → Station → ℕ → ℕ 
     walk : ent 𝓤 (onEntry 𝓤 H A (ended Z .signature) κs qs a at) (runs-f (v ∷ v′ ∷ v″ ∷ z ∷ []) Ends)
     walk =
         qed W ((‵ (flft (κs .0) (qs .0)) ⊛ ‵ (flft (κs .1 .0) (qs .1 .0)) ⊛ ‵ (flft (κs .1 .1 .0) (qs .1 .1 .0)) ⊛ ‵ ftrue)
-        ∷ ‵ (owns (MutSlice (named 0) (κs .0) R ∷ ShrRef (named 1) (κs .1 .0) (Array u16 255) ∷ ShrRef (named 2) (κs .1 .1 .0) (Array u32 255) ∷ row Z
+        ∷ ‵ (owns (MutSlice (named 0) (κs .0) R ∷ ShrRef (named 1) (κs .1 .0) (Array u16 records) ∷ ShrRef (named 2) (κs .1 .1 .0) (Array u32 records) ∷ row Z
         ∷ []) a at) ∷ []) ∵
         enter ! (𝓣 .C) (𝓣 .Λ) (function Z #k #p #e) (v ∷ v′ ∷ v″ ∷ z ∷ []) _ $
         alloc1 ! (λ l₀. alloc1 ! (λ l₁. alloc1 ! (λ l₂. alloc1 ! (λ l₃. alloc1 ! (λ l₄. alloc1 ! (λ l₅. alloc1 ! (λ l₆. alloc1 ! (λ l₇.
@@ -106,12 +107,12 @@ module _ (Z : Datum) (ZL : Law Z) (S : Z .D → ℕ → Station → ℕ → ℕ 
         (λ full. forget ! 59 refl $ forget ! 61 refl $
         assigns ! (of-opd ! (lit ! tt)) (from ! (stop !)) (init ! 65 refl (tt, record { fits = lit< tt })) $
         opens-slice ! tt R (a .0 .now) (a .0 .ptr .0) (a .0 .ptr .1) $ move ! (6 ∷ 4 ∷ []) $
-        looks-array ! tt w16 255 (a .1 .0 .now) (a .1 .0 .ptr .0) (a .1 .0 .ptr .1) (λ q₁ lu. move ! (7 ∷ 6 ∷ []) $
-        looks-array ! tt w32 255 (a .1 .1 .0 .now) (a .1 .1 .0 .ptr .0) (a .1 .1 .0 .ptr .1) (λ q₂ lv. move ! (4 ∷ 5 ∷ 6 ∷ 7 ∷ 2 ∷ 3 ∷ []) $
-        first ! $ blocks ! $ looped Z ZL S t 𝓤 H A W κs qs a gn gk 𝓣 l q₁ q₂ (eqb→eq n 255 full) lu lv #k #p #e known-keep known-place known-enter)))
+        looks-array ! tt w16 records (a .1 .0 .now) (a .1 .0 .ptr .0) (a .1 .0 .ptr .1) (λ q₁ lu. move ! (7 ∷ 6 ∷ []) $
+        looks-array ! tt w32 records (a .1 .1 .0 .now) (a .1 .1 .0 .ptr .0) (a .1 .1 .0 .ptr .1) (λ q₂ lv. move ! (4 ∷ 5 ∷ 6 ∷ 7 ∷ 2 ∷ 3 ∷ []) $
+        first ! $ blocks ! $ looped Z ZL S t 𝓤 H A W κs qs a gn gk 𝓣 l q₁ q₂ (eqb→eq n records full) lu lv #k #p #e known-keep known-place known-enter)))
         (λ other. let En = env Z 𝓤 H l in
         skips ! $ exec ! (𝓣 .C) (𝓣 .Λ) En at-end (atRet En Ends) $ forget ! 59 refl $ forget ! 61 refl $ move ! (5 ∷ []) $ drop ! $ move ! (5 ∷ []) $ drop ! $
-        finish Z ZL S t 𝓤 H A W κs qs a gn gk 𝓣 l (a .0 .now) refl (sym (no-second (eqb n 255)
+        finish Z ZL S t 𝓤 H A W κs qs a gn gk 𝓣 l (a .0 .now) refl (sym (no-second (eqb n records)
         (target (S (a .1 .1 .1 .0)) (a .0 .now) (a .1 .0 .now) (a .1 .1 .0 .now)) (a .0 .now) other))))))))))))))))))))))))))))))))))))))
 
   walks : Walks 𝓤 H A (ended Z) (stayed Z) runs-f (clauses Z S 𝓤 H A)
@@ -120,8 +121,8 @@ module _ (Z : Datum) (ZL : Law Z) (S : Z .D → ℕ → Station → ℕ → ℕ 
       (λ κs. (
         mut-slice-tells (named 0) (κs .0) R,
         (
-          shr-tells (named 1) (κs .1 .0) (Array u16 255),
-          (shr-tells (named 2) (κs .1 .1 .0) (Array u32 255), (ZL .tells, tt)),
+          shr-tells (named 1) (κs .1 .0) (Array u16 records),
+          (shr-tells (named 2) (κs .1 .1 .0) (Array u32 records), (ZL .tells, tt)),
         ),
       ))
       (λ κs qs bounds a g are. via 𝓤 _ (fst∗ 𝓤 _ (emp 𝓤)) (walk κs qs a (are .0 .0 .1) (are .1 .1 .1 .0)))
@@ -131,9 +132,9 @@ module _ (Z : Datum) (ZL : Law Z) (S : Z .D → ℕ → Station → ℕ → ℕ 
       walk-meets 𝓤 H A (ended Z) (stayed Z) W (
         goes-slice 𝓤 H A W 3 0 tt (plain (λ _. R)),
         (
-          goes-dropped 𝓤 H A W 3 (shrRefTo (1 ∷ []) tt (arrayOf (plain (λ _. u16)) 255)) yes (λ κs x f. refl),
+          goes-dropped 𝓤 H A W 3 (shrRefTo (1 ∷ []) tt (arrayOf (plain (λ _. u16)) records)) yes (λ κs x f. refl),
           (
-            goes-dropped 𝓤 H A W 3 (shrRefTo (2 ∷ []) tt (arrayOf (plain (λ _. u32)) 255)) yes (λ κs x f. refl),
+            goes-dropped 𝓤 H A W 3 (shrRefTo (2 ∷ []) tt (arrayOf (plain (λ _. u32)) records)) yes (λ κs x f. refl),
             (goes-dropped 𝓤 H A W 3 (plain (λ _. row Z)) yes (λ κs x f. refl), tt),
           ),
         ),

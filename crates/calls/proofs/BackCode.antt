@@ -32,6 +32,7 @@ use denote.Triple.Statement.{Contract}
 use denote.Triple.Spec.{tripleOf}
 use denote.Triple.Clauses.{Clauses, Ended, closing}
 use denote.Triple.Walked.{Stays, stay-dropped, stay-slice}
+use Rattle.limits.specs.Limits.{records}
 use Rattle.register.specs.declared.Station.{Station}
 use Rattle.register.specs.Sheet.{settled}
 use Rattle.register.proofs.Station.Laws as T′
@@ -45,26 +46,26 @@ abbrev pub slice : Ty
 slice = sliceTy (tyRef (named 0) mut (pointee (R .written)))
 
 abbrev pub ref16 : Ty
-ref16 = tyRef (named 1) imm (tyArray (tyInt w16) 255)
+ref16 = tyRef (named 1) imm (tyArray (tyInt w16) records)
 
 abbrev pub ref32 : Ty
-ref32 = tyRef (named 2) imm (tyArray (tyInt w32) 255)
+ref32 = tyRef (named 2) imm (tyArray (tyInt w32) records)
 
 abbrev pub at-end : MBody
 at-end = seq (assign (place 0 []) (rvOpd opdUnit)) return
 
 abbrev pub turn : Name → MBody
-turn #k = seq (assign (place 9 []) (op2 (lt unsigned) (copyᴹ (place 5 [])) (int w64 255)))
+turn #k = seq (assign (place 9 []) (op2 (lt unsigned) (copyᴹ (place 5 [])) (int w64 records)))
     (seq (cond (copyᴹ (place 9 [])) skip (exit 1))
     (seq (assign (place 11 []) (op2 (mul unsigned) (copyᴹ (place 5 [])) (int w64 20)))
     (seq (assign (place 12 []) (op2 offset (copyᴹ (place 1 (field 0 ∷ []))) (copyᴹ (place 11 []))))
     (seq (assign (place 13 []) (rvOpd (copyᴹ (place 12 (deref T′.mir ∷ [])))))
     (seq (assign (place 14 []) (op2 (mul unsigned) (copyᴹ (place 5 [])) (int w64 2)))
-    (seq (assign (place 15 []) (addrOf (place 2 (deref (tyArray (tyInt w16) 255) ∷ []))))
+    (seq (assign (place 15 []) (addrOf (place 2 (deref (tyArray (tyInt w16) records) ∷ []))))
     (seq (assign (place 16 []) (op2 offset (copyᴹ (place 15 [])) (copyᴹ (place 14 []))))
     (seq (assign (place 17 []) (rvOpd (copyᴹ (place 16 (deref (tyInt w16) ∷ [])))))
     (seq (assign (place 18 []) (op2 (mul unsigned) (copyᴹ (place 5 [])) (int w64 4)))
-    (seq (assign (place 19 []) (addrOf (place 3 (deref (tyArray (tyInt w32) 255) ∷ []))))
+    (seq (assign (place 19 []) (addrOf (place 3 (deref (tyArray (tyInt w32) records) ∷ []))))
     (seq (assign (place 20 []) (op2 offset (copyᴹ (place 19 [])) (copyᴹ (place 18 []))))
     (seq (assign (place 21 []) (rvOpd (copyᴹ (place 20 (deref (tyInt w32) ∷ [])))))
     (seq (call #k (copyᴹ (place 13 []) ∷ copyᴹ (place 17 []) ∷ copyᴹ (place 21 []) ∷ copyᴹ (place 4 []) ∷ []) (place 10 []))
@@ -78,7 +79,7 @@ entry #e = seq (assign (place 26 []) (op2 (mul unsigned) (copyᴹ (place 6 [])) 
     (seq (assign (place 27 []) (op2 offset (copyᴹ (place 1 (field 0 ∷ []))) (copyᴹ (place 26 []))))
     (seq (assign (place 28 []) (rvOpd (copyᴹ (place 27 (deref T′.mir ∷ [])))))
     (seq (assign (place 29 []) (op2 (mul unsigned) (copyᴹ (place 6 [])) (int w64 4)))
-    (seq (assign (place 30 []) (addrOf (place 3 (deref (tyArray (tyInt w32) 255) ∷ []))))
+    (seq (assign (place 30 []) (addrOf (place 3 (deref (tyArray (tyInt w32) records) ∷ []))))
     (seq (assign (place 31 []) (op2 offset (copyᴹ (place 30 [])) (copyᴹ (place 29 []))))
     (seq (assign (place 32 []) (rvOpd (copyᴹ (place 31 (deref (tyInt w32) ∷ [])))))
     (seq (call #e (copyᴹ (place 28 []) ∷ copyᴹ (place 32 []) ∷ copyᴹ (place 4 []) ∷ []) (place 25 []))
@@ -88,7 +89,7 @@ entry #e = seq (assign (place 26 []) (op2 (mul unsigned) (copyᴹ (place 6 [])) 
 
 abbrev pub tail : Name → Name → MBody
 tail #p #e = seq (call #p (copyᴹ (place 4 []) ∷ []) (place 6 []))
-    (seq (assign (place 24 []) (op2 (lt unsigned) (copyᴹ (place 6 [])) (int w64 255)))
+    (seq (assign (place 24 []) (op2 (lt unsigned) (copyᴹ (place 6 [])) (int w64 records)))
     (cond (copyᴹ (place 24 [])) (entry #e) skip))
 
 abbrev pub function : Datum → Name → Name → Name → Fn
@@ -104,7 +105,7 @@ function Z #k #p #e = record {
       ∷ local T′.mir valueLocal ∷ local (tyInt w64) valueLocal ∷ local tyPtr valueLocal ∷ local T′.mir valueLocal ∷ local (tyInt w64) valueLocal
       ∷ local tyPtr valueLocal ∷ local tyPtr valueLocal ∷ local (tyInt w32) valueLocal ∷ local (tyInt w64) valueLocal ∷ local tyPtr valueLocal ∷ [];
   body = seq (assign (place 7 []) (rvOpd (copyᴹ (place 1 (field 1 ∷ [])))))
-      (seq (assign (place 8 []) (op2 eq (copyᴹ (place 7 [])) (int w64 255)))
+      (seq (assign (place 8 []) (op2 eq (copyᴹ (place 7 [])) (int w64 records)))
       (seq (cond (copyᴹ (place 8 [])) (seq (assign (place 5 []) (rvOpd (int w64 0))) (seq (block (loop (turn #k))) (tail #p #e))) skip)
       at-end));
 }
@@ -143,8 +144,8 @@ ended Z = record {
   signature = record {
     lifetimes = 3;
     outlives = [];
-    params = mutSliceOf (0 ∷ []) tt (plain (λ _. R)) ∷ shrRefTo (1 ∷ []) tt (arrayOf (plain (λ _. u16)) 255)
-        ∷ shrRefTo (2 ∷ []) tt (arrayOf (plain (λ _. u32)) 255) ∷ plain (λ _. row Z) ∷ [];
+    params = mutSliceOf (0 ∷ []) tt (plain (λ _. R)) ∷ shrRefTo (1 ∷ []) tt (arrayOf (plain (λ _. u16)) records)
+        ∷ shrRefTo (2 ∷ []) tt (arrayOf (plain (λ _. u32)) records) ∷ plain (λ _. row Z) ∷ [];
     result = plain (λ _. Nothing);
   };
   kept = (yes, (yes, (yes, (yes, tt))));
@@ -154,8 +155,8 @@ abbrev pub stayed : (Z : Datum) → Stays (ended Z .signature .params) (ended Z 
 stayed Z = (
   stay-slice (0 ∷ []) tt (plain (λ _. R)),
   (
-    stay-dropped (shrRefTo (1 ∷ []) tt (arrayOf (plain (λ _. u16)) 255)) yes,
-    (stay-dropped (shrRefTo (2 ∷ []) tt (arrayOf (plain (λ _. u32)) 255)) yes, (stay-dropped (plain (λ _. row Z)) yes, tt)),
+    stay-dropped (shrRefTo (1 ∷ []) tt (arrayOf (plain (λ _. u16)) records)) yes,
+    (stay-dropped (shrRefTo (2 ∷ []) tt (arrayOf (plain (λ _. u32)) records)) yes, (stay-dropped (plain (λ _. row Z)) yes, tt)),
   ),
 )
 

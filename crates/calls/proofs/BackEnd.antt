@@ -34,6 +34,7 @@ use denote.Steps.{owned, nothing}
 use denote.Triple.Entry.{Vals}
 use denote.Triple.Statement.{Triple}
 use denote.Triple.Walked.{says, walkOf, ends-at}
+use Rattle.limits.specs.Limits.{records}
 use Rattle.register.specs.declared.Station.{Station}
 use Rattle.register.specs.Register as spec
 use Rattle.register.specs.Sheet.{settled}
@@ -142,14 +143,14 @@ module _ (Z : Datum) (ZL : Law Z) (S : Z .D → ℕ → Station → ℕ → ℕ 
         move ! (9 ∷ 10 ∷ []) $ free1 ! $ move ! (7 ∷ 8 ∷ []) $ free1 ! $ move ! (5 ∷ 6 ∷ []) $ free1 ! $ free0 ! $
         keep ! (0 ∷ 1 ∷ 2 ∷ 3 ∷ 4 ∷ []) $ by ! (exits zs e is)
 
-    module _ (q₁ q₂ : Share) (full : n ≡ 255) (lu : length us ≡ 255) (lv : length vs ≡ 255) where
+    module _ (q₁ q₂ : Share) (full : n ≡ records) (lu : length us ≡ records) (lv : length vs ≡ records) where
       -- [the register's row; its open borrow; obs; auth; a column's row; what shuts it; the other's; what shuts it; _34; …]
       abbrev pub Open : List Station → Fml → List (Item 𝓤)
       Open zs i5 =
           ‵ (cells R fullShare zs b o) ∷ ‵ (fobor (κs .0) (qs .0) (Held R n b o γ)) ∷ ‵ (fobs γ (codedHoleys R .code (heres R ys)))
           ∷ ‵ (fauth γ (codedHoleys R .code (heres R ys)))
-          ∷ ‵ (cells u16 q₁ us b′ o′) ∷ ‵ (fobor (κs .1 .0) (qs .1 .0) (partAt (Array u16 255) q₁ us b′ o′)) ∷ ‵ (cells u32 q₂ vs b″ o″)
-          ∷ ‵ (fobor (κs .1 .1 .0) (qs .1 .1 .0) (partAt (Array u32 255) q₂ vs b″ o″)) ∷ Locals i5
+          ∷ ‵ (cells u16 q₁ us b′ o′) ∷ ‵ (fobor (κs .1 .0) (qs .1 .0) (partAt (Array u16 records) q₁ us b′ o′)) ∷ ‵ (cells u32 q₂ vs b″ o″)
+          ∷ ‵ (fobor (κs .1 .1 .0) (qs .1 .1 .0) (partAt (Array u32 records) q₂ vs b″ o″)) ∷ Locals i5
 
       -- after the `if`'s first arm
       abbrev pub Q : Out → SProp 𝓤
@@ -159,11 +160,11 @@ module _ (Z : Datum) (ZL : Law Z) (S : Z .D → ℕ → Station → ℕ → ℕ 
       shut : (zs : List Station) → length zs ≡ n → zs ≡ target (S k) ys us vs → Sq W (Open zs (froom (tyInt w64) (l 5) 0)) (prop (Q next))
       shut zs e is =
           exec ! C Λ En at-end (atRet En Post) $
-          closes-slice ! tt R ys zs e b o $ move ! (3 ∷ 4 ∷ []) $ shuts-array ! tt u16 255 q₁ us lu b′ o′ $ move ! (4 ∷ 5 ∷ []) $
-          shuts-array ! tt u32 255 q₂ vs lv b″ o″ $
+          closes-slice ! tt R ys zs e b o $ move ! (3 ∷ 4 ∷ []) $ shuts-array ! tt u16 records q₁ us lu b′ o′ $ move ! (4 ∷ 5 ∷ []) $
+          shuts-array ! tt u32 records q₂ vs lv b″ o″ $
           -- [κ″; κ′; obs; the register's borrow; κ; _34; …]
           move ! (2 ∷ 3 ∷ 4 ∷ 1 ∷ 0 ∷ []) $
-          finish zs e (is ∙ sym (yes-first (eqb n 255) (target (S k) ys us vs) ys (subst (λ (i : ℕ). T (eqb i 255)) (sym full) tt)))
+          finish zs e (is ∙ sym (yes-first (eqb n records) (target (S k) ys us vs) ys (subst (λ (i : ℕ). T (eqb i records)) (sym full) tt)))
 
       module _ (#p #e : Name) (known-place : Triple 𝓤 (C #p) (ThePlace Z S 𝓤 H A t ZL)) (known-enter : Triple 𝓤 (C #e) (TheEnter Z S 𝓤 H A t ZL))
           (zs : List Station) (len : length zs ≡ n) (is : zs ≡ kept t k ys us vs) where
@@ -177,7 +178,7 @@ module _ (Z : Datum) (ZL : Law Z) (S : Z .D → ℕ → Station → ℕ → ℕ 
             land ! (from ! (stop !)) (init ! 64 refl (tt, record { fits = gp .1 })) $
             assigns ! (bin ! (load ! (from ! (stop !)) (look ! 64 refl)) (lit ! tt) tt) (from ! (stop !)) (init ! 28 refl (tt, tt)) $
             branches ! (load ! (from ! (stop !)) (look ! 28 refl))
-            (λ yes. let l255 : pl < 255 = ltb→lt pl 255 yes in
+            (λ yes. let l255 : pl < records = ltb→lt pl records yes in
             let lz : pl < length zs = subst (λ (i : ℕ). pl < i) (sym (len ∙ full)) l255 in
             let lav : pl < length vs = subst (λ (i : ℕ). pl < i) (sym lv) l255 in
             let lb = bytes n pl gn (subst (λ (i : ℕ). pl < i) (sym full) l255) in
@@ -222,11 +223,11 @@ module _ (Z : Datum) (ZL : Law Z) (S : Z .D → ℕ → Station → ℕ → ℕ 
             forget ! 8 refl $ forget ! 10 refl $ forget ! 12 refl $ forget ! 14 refl $ forget ! 16 refl $ forget ! 18 refl $ forget ! 20 refl $
             forget ! 22 refl $ forget ! 24 refl $ forget ! 26 refl $ forget ! 28 refl $ forget ! 64 refl $
             shut (set zs pl r) (length-set zs pl r ∙ len) (one l255))))))
-            (λ no. skips ! $ forget ! 28 refl $ forget ! 64 refl $ shut zs len (none (nltb→le pl 255 no))))
+            (λ no. skips ! $ forget ! 28 refl $ forget ! 64 refl $ shut zs len (none (nltb→le pl records no))))
           where
-            one : pl < 255 → set zs pl (t .enter k (getD zs pl spec.blank) (getD vs pl 0)) ≡ target (S k) ys us vs
+            one : pl < records → set zs pl (t .enter k (getD zs pl spec.blank) (getD vs pl 0)) ≡ target (S k) ys us vs
             one m = ap (λ (xs : List Station). set xs pl (t .enter k (getD xs pl spec.blank) (getD vs pl 0))) is
                 ∙ one-entered t k ys us vs (subst (λ (i : ℕ). pl < i) (sym full) m)
 
-            none : 255 ≤ pl → zs ≡ target (S k) ys us vs
+            none : records ≤ pl → zs ≡ target (S k) ys us vs
             none m = is ∙ none-entered t k ys us vs (subst (λ (i : ℕ). i ≤ pl) (sym full) m)

@@ -32,6 +32,7 @@ use denote.Slice.{Room}
 use denote.Index.{place-is, elem-out, elem-back, elem-put}
 use denote.Steps.{owned}
 use denote.Triple.Statement.{Triple}
+use Rattle.limits.specs.Limits.{records}
 use Rattle.register.specs.declared.Station.{Station}
 use Rattle.register.specs.Register as spec
 use Rattle.calls.proofs.Datum.{Datum, row, Law}
@@ -45,7 +46,7 @@ use Rattle.calls.proofs.BackEnd.{Open, Q, ends}
 module _ (Z : Datum) (ZL : Law Z) (S : Z .D → ℕ → Station → ℕ → ℕ → Station) (t : Way (Z .D) S) {M : Type 1} (𝓤 : URA M) (H : Heap 𝓤) (A : Atoms 𝓤)
     (W : Given 𝓤 H A) (κs : Lfts 3) (qs : Shares 3) (a : RefT (List Station) × (RefT (List ℕ) × (RefT (List ℕ) × (Z .D × Unit {0}))))
     (gn : Room R (length (a .0 .now))) (gk : Is (row Z) (a .1 .1 .1 .0) (ZL .val (a .1 .1 .1 .0) ∷ [])) (𝓣 : Tables 𝓤 H) (l : ℕ → ℕ)
-    (q₁ q₂ : Share) (full : length (a .0 .now) ≡ 255) (lu : length (a .1 .0 .now) ≡ 255) (lv : length (a .1 .1 .0 .now) ≡ 255)
+    (q₁ q₂ : Share) (full : length (a .0 .now) ≡ records) (lu : length (a .1 .0 .now) ≡ records) (lv : length (a .1 .1 .0 .now) ≡ records)
     (#k #p #e : Name) (known-keep : Triple 𝓤 (𝓣 .C #k) (TheKeep Z S 𝓤 H A t ZL)) (known-place : Triple 𝓤 (𝓣 .C #p) (ThePlace Z S 𝓤 H A t ZL))
     (known-enter : Triple 𝓤 (𝓣 .C #e) (TheEnter Z S 𝓤 H A t ZL)) where
   abbrev b : ℕ
@@ -94,10 +95,10 @@ module _ (Z : Datum) (ZL : Law Z) (S : Z .D → ℕ → Station → ℕ → ℕ 
   Upto = Kept (λ _. t .keep k) ys us vs
 
   abbrev Nearer : Upto → Upto → Type 0
-  Nearer i j = 255 - i .0 < 255 - j .0
+  Nearer i j = records - i .0 < records - j .0
 
   Nearer-wf : WellFounded Nearer
-  Nearer-wf = InvImage·wf (λ (j : Upto). 255 - j .0) (Nat·lt-wfRel .wf)
+  Nearer-wf = InvImage·wf (λ (j : Upto). records - j .0) (Nat·lt-wfRel .wf)
 
   -- [the register's row; its open borrow; obs; auth; a column's row; what shuts it; the other's; what shuts it; _34; …]
   abbrev Here : Upto → List (Item 𝓤)
@@ -112,7 +113,7 @@ module _ (Z : Datum) (ZL : Law Z) (S : Z .D → ℕ → Station → ℕ → ℕ 
   abbrev Turned : Upto → Out → SProp 𝓤
   Turned j = afterTurn 𝓤 H (Below 𝓤 H A Nearer Here j) After
 
-  turn-at : (j : Upto) (c : Bool) → ltb (j .0) 255 ≡ c → Sq W (Here j) (runs C Λ E (turn #k) (anyQ (Turned j)))
+  turn-at : (j : Upto) (c : Bool) → ltb (j .0) records ≡ c → Sq W (Here j) (runs C Λ E (turn #k) (anyQ (Turned j)))
   unfolding afterTurn
   turn-at j true e =
       assigns ! (bin ! (load ! (from ! (stop !)) (look ! 66 refl)) (lit ! tt) tt) (from ! (stop !)) (init ! 58 refl (tt, tt)) $
@@ -176,7 +177,7 @@ module _ (Z : Datum) (ZL : Law Z) (S : Z .D → ℕ → Station → ℕ → ℕ 
           set (j .1 .0) (j .0) r,
           (add-one-le l255, (length-set (j .1 .0) (j .0) r ∙ j .1 .1 .1 .0, (same (λ _. t .keep k) ys us vs j ln r refl, still (λ _. t .keep k) ys us vs j r))),
         ),
-      ) (add-one-dec 255 (j .0) l255))))))
+      ) (add-one-dec records (j .0) l255))))))
     where
       s : Station
       s = getD (j .1 .0) (j .0) spec.blank
@@ -190,8 +191,8 @@ module _ (Z : Datum) (ZL : Law Z) (S : Z .D → ℕ → Station → ℕ → ℕ 
       r : Station
       r = t .keep k s m p
 
-      l255 : j .0 < 255
-      l255 = ltb→lt (j .0) 255 (subst T (sym e) tt)
+      l255 : j .0 < records
+      l255 = ltb→lt (j .0) records (subst T (sym e) tt)
 
       ln : j .0 < n
       ln = subst (λ (i : ℕ). j .0 < i) (sym full) l255
@@ -214,8 +215,8 @@ module _ (Z : Datum) (ZL : Law Z) (S : Z .D → ℕ → Station → ℕ → ℕ 
       ends Z ZL S t 𝓤 H A W κs qs a gn gk 𝓣 l q₁ q₂ full lu lv #p #e known-place known-enter (j .1 .0) (j .1 .1 .1 .0)
       (all (λ _. t .keep k) ys us vs j full at-last)
     where
-      at-last : 255 ≤ j .0
-      at-last = nltb→le (j .0) 255 (subst (λ (c : Bool). T (not c)) (sym e) tt)
+      at-last : records ≤ j .0
+      at-last = nltb→le (j .0) records (subst (λ (c : Bool). T (not c)) (sym e) tt)
 
   pub looped : Sq W (Here (0, (ys, (zero-le, (refl, (refl, refl)))))) (runs C Λ E (loop (turn #k)) (anyQ After))
-  looped = loops ! 𝓣 Nearer Nearer-wf Here (λ j. turn-at j (ltb (j .0) 255) refl) (0, (ys, (zero-le, (refl, (refl, refl)))))
+  looped = loops ! 𝓣 Nearer Nearer-wf Here (λ j. turn-at j (ltb (j .0) records) refl) (0, (ys, (zero-le, (refl, (refl, refl)))))

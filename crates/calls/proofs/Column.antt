@@ -33,6 +33,7 @@ use denote.Triple.Statement.{Triple}
 use denote.Triple.Spec.{Meets}
 use denote.Triple.Clauses.{closing}
 use denote.Triple.Walked.{Walks, walked, goes-ref, goes-dropped, walk-meets}
+use Rattle.limits.specs.Limits.{records}
 use Rattle.register.specs.declared.Station.{Station}
 use Rattle.register.proofs.Sheet.{no-second}
 use Rattle.calls.proofs.Datum.{Datum, row, Law}
@@ -60,7 +61,7 @@ module _ (w : Width) (X : Datum) (XL : Law X) (F : X .D → Station → ℕ) (#g
     walk : ent 𝓤 (onEntry 𝓤 H A (ended w X .signature) κs qs a at) (runs-f vs Ends)
     walk =
         qed W ((‵ (flft (κs .0) (qs .0)) ⊛ ‵ (flft (κs .1 .0) (qs .1 .0)) ⊛ ‵ ftrue)
-        ∷ ‵ (owns (ShrSlice (named 0) (κs .0) R ∷ MutRef (named 1) (κs .1 .0) (Array (UInt w) 255) ∷ row X ∷ []) a at) ∷ []) ∵
+        ∷ ‵ (owns (ShrSlice (named 0) (κs .0) R ∷ MutRef (named 1) (κs .1 .0) (Array (UInt w) records) ∷ row X ∷ []) a at) ∷ []) ∵
         enter ! (𝓣 .C) (𝓣 .Λ) (function w X #g) vs _ $
         alloc1 ! (λ l₀. alloc1 ! (λ l₁. alloc1 ! (λ l₂. alloc1 ! (λ l₃. alloc1 ! (λ l₄. alloc1 ! (λ l₅. alloc1 ! (λ l₆. alloc1 ! (λ l₇. alloc1 ! (λ l₈.
         alloc1 ! (λ l₉. alloc1 ! (λ l₁₀. alloc1 ! (λ l₁₁. alloc1 ! (λ l₁₂. alloc1 ! (λ l₁₃. alloc1 ! (λ l₁₄. alloc0 ! $ params1 ! $
@@ -79,23 +80,23 @@ module _ (w : Width) (X : Datum) (XL : Law X) (F : X .D → Station → ℕ) (#g
         assigns ! (of-opd ! (lit ! tt)) (from ! (stop !)) (init ! 25 refl (tt, record { fits = lit< tt })) $ move ! (4 ∷ 0 ∷ []) $
         looks-slice ! tt R (Is R) (shows 𝓤 H A R) vals tells (copy 𝓤 H A W) (a .0 .now) (a .0 .ptr .0) (a .0 .ptr .1) (λ q″. move ! (2 ∷ []) $ drop ! $
         move ! (3 ∷ 4 ∷ 2 ∷ []) $
-        opens-array ! tt (UInt w) tt 255 (a .1 .0 .now) (a .1 .0 .ptr .0) (a .1 .0 .ptr .1) (λ long. move ! (0 ∷ 4 ∷ 5 ∷ 1 ∷ 2 ∷ 3 ∷ []) $ blocks ! $
-        looped w X XL F #g 𝓤 H A W κs qs a gn gk 𝓣 known l₀ l₁ l₂ l₃ l₄ l₅ l₆ l₇ l₈ l₉ l₁₀ l₁₁ l₁₂ l₁₃ l₁₄ q″ (eqb→eq (length (a .0 .now)) 255 full) long)))
+        opens-array ! tt (UInt w) tt records (a .1 .0 .now) (a .1 .0 .ptr .0) (a .1 .0 .ptr .1) (λ long. move ! (0 ∷ 4 ∷ 5 ∷ 1 ∷ 2 ∷ 3 ∷ []) $ blocks ! $
+        looped w X XL F #g 𝓤 H A W κs qs a gn gk 𝓣 known l₀ l₁ l₂ l₃ l₄ l₅ l₆ l₇ l₈ l₉ l₁₀ l₁₁ l₁₂ l₁₃ l₁₄ q″ (eqb→eq (length (a .0 .now)) records full) long)))
         (λ other. let En = env w X 𝓤 H l₀ l₁ l₂ l₃ l₄ l₅ l₆ l₇ l₈ l₉ l₁₀ l₁₁ l₁₂ l₁₃ l₁₄ in
         skips ! $ exec ! (𝓣 .C) (𝓣 .Λ) En at-end (atRet En Ends) $ forget ! 21 refl $ forget ! 23 refl $ move ! (4 ∷ []) $ drop ! $
         finish w X XL F #g 𝓤 H A W κs qs a gn gk 𝓣 known l₀ l₁ l₂ l₃ l₄ l₅ l₆ l₇ l₈ l₉ l₁₀ l₁₁ l₁₂ l₁₃ l₁₄ (a .1 .0 .now)
-        (sym (no-second (eqb (length (a .0 .now)) 255) (map (F (a .1 .1 .0)) (a .0 .now)) (a .1 .0 .now) other))))))))))))))))))
+        (sym (no-second (eqb (length (a .0 .now)) records) (map (F (a .1 .1 .0)) (a .0 .now)) (a .1 .0 .now) other))))))))))))))))))
 
   walks : Walks 𝓤 H A (ended w X) (stayed w X) runs-f (clauses w X F 𝓤 H A)
   walks = walked 𝓤 H A (ended w X) (stayed w X) (clauses w X F 𝓤 H A) runs-f
       (λ κs. (slice-vals, (ptr-vals, ((λ x. XL .val x ∷ []), tt))))
-      (λ κs. (shr-slice-tells (named 0) (κs .0) R, (mut-tells (named 1) (κs .1 .0) (Array (UInt w) 255), (XL .tells, tt))))
+      (λ κs. (shr-slice-tells (named 0) (κs .0) R, (mut-tells (named 1) (κs .1 .0) (Array (UInt w) records), (XL .tells, tt))))
       (λ κs qs bounds a g are. via 𝓤 _ (fst∗ 𝓤 _ (emp 𝓤)) (walk κs qs a (are .0 .0 .1) (are .1 .1 .0)))
 
   pub meets : Meets 𝓤 H A (ended w X .signature) runs-f (closing 𝓤 H A (ended w X) (clauses w X F 𝓤 H A))
   meets =
       walk-meets 𝓤 H A (ended w X) (stayed w X) W (
         goes-dropped 𝓤 H A W 2 (shrSliceOf (0 ∷ []) tt (plain (λ _. R))) yes (λ κs x f. refl),
-        (goes-ref 𝓤 H A W 2 1 tt (arrayOf (plain (λ _. UInt w)) 255), (goes-dropped 𝓤 H A W 2 (plain (λ _. row X)) yes (λ κs x f. refl), tt)),
+        (goes-ref 𝓤 H A W 2 1 tt (arrayOf (plain (λ _. UInt w)) records), (goes-dropped 𝓤 H A W 2 (plain (λ _. row X)) yes (λ κs x f. refl), tt)),
       )
       (clauses w X F 𝓤 H A) runs-f (WpFn-mono 𝓤 H (W .laws) 𝓣 (function w X #g)) walks

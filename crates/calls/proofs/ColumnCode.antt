@@ -24,6 +24,7 @@ use denote.Triple.Statement.{Contract}
 use denote.Triple.Spec.{tripleOf}
 use denote.Triple.Clauses.{Clauses, Ended, closing}
 use denote.Triple.Walked.{Stays, stay-dropped, stay-ref}
+use Rattle.limits.specs.Limits.{records}
 use Rattle.register.specs.declared.Station.{Station}
 use Rattle.register.specs.Sheet.{filled}
 use Rattle.register.proofs.Station.Laws as T′
@@ -39,13 +40,13 @@ at-end = seq (assign (place 0 []) (rvOpd opdUnit)) return
 module _ (w : Width) where
   -- ---- the code
   abbrev array : Ty
-  array = tyArray (tyInt w) 255
+  array = tyArray (tyInt w) records
 
   abbrev pub ref : Ty
   ref = tyRef (named 1) mut array
 
   abbrev pub turn : Name → MBody
-  turn #g = seq (assign (place 7 []) (op2 (lt unsigned) (copyᴹ (place 4 [])) (int w64 255)))
+  turn #g = seq (assign (place 7 []) (op2 (lt unsigned) (copyᴹ (place 4 [])) (int w64 records)))
       (seq (cond (copyᴹ (place 7 [])) skip (exit 1))
       (seq (assign (place 9 []) (op2 (mul unsigned) (copyᴹ (place 4 [])) (int w64 20)))
       (seq (assign (place 10 []) (op2 offset (copyᴹ (place 1 (field 0 ∷ []))) (copyᴹ (place 9 []))))
@@ -66,7 +67,7 @@ module _ (w : Width) where
         ∷ local (tyInt w64) valueLocal ∷ local tyBool valueLocal ∷ local tyBool valueLocal ∷ local (tyInt w) valueLocal ∷ local (tyInt w64) valueLocal
         ∷ local tyPtr valueLocal ∷ local T′.mir valueLocal ∷ local (tyInt w64) valueLocal ∷ local tyPtr valueLocal ∷ local tyPtr valueLocal ∷ [];
     body = seq (assign (place 5 []) (rvOpd (copyᴹ (place 1 (field 1 ∷ [])))))
-        (seq (assign (place 6 []) (op2 eq (copyᴹ (place 5 [])) (int w64 255)))
+        (seq (assign (place 6 []) (op2 eq (copyᴹ (place 5 [])) (int w64 records)))
         (seq (cond (copyᴹ (place 6 [])) (seq (assign (place 4 []) (rvOpd (int w64 0))) (block (loop (turn #g)))) skip)
         at-end));
   }
@@ -82,7 +83,7 @@ module _ (w : Width) where
     signature = record {
       lifetimes = 2;
       outlives = [];
-      params = shrSliceOf (0 ∷ []) tt (plain (λ _. R)) ∷ mutRefTo (1 ∷ []) tt (arrayOf (plain (λ _. UInt w)) 255) ∷ plain (λ _. row X) ∷ [];
+      params = shrSliceOf (0 ∷ []) tt (plain (λ _. R)) ∷ mutRefTo (1 ∷ []) tt (arrayOf (plain (λ _. UInt w)) records) ∷ plain (λ _. row X) ∷ [];
       result = plain (λ _. Nothing);
     };
     kept = (yes, (yes, (yes, tt)));
@@ -97,7 +98,7 @@ module _ (w : Width) where
   abbrev pub stayed : (X : Datum) → Stays (ended X .signature .params) (ended X .kept)
   stayed X = (
     stay-dropped (shrSliceOf (0 ∷ []) tt (plain (λ _. R))) yes,
-    (stay-ref (1 ∷ []) tt (arrayOf (plain (λ _. UInt w)) 255), (stay-dropped (plain (λ _. row X)) yes, tt)),
+    (stay-ref (1 ∷ []) tt (arrayOf (plain (λ _. UInt w)) records), (stay-dropped (plain (λ _. row X)) yes, tt)),
   )
 
   module _ (X : Datum) (F : X .D → Station → ℕ) {M : Type 1} (𝓤 : URA M) (H : Heap 𝓤) (A : Atoms 𝓤) where

@@ -43,6 +43,7 @@ use denote.Triple.Statement.{Triple}
 use denote.Triple.Call.{calls-at}
 use denote.Triple.Clauses.{ensured, lasts}
 use denote.Triple.Walked.{says, walkOf, ends-at}
+use Rattle.limits.specs.Limits.{records}
 use Rattle.register.specs.declared.Station.{Station}
 use Rattle.register.specs.Register as spec
 use Rattle.register.specs.Sheet.{filled}
@@ -105,11 +106,11 @@ module _ (w : Width) (X : Datum) (XL : Law X) (F : X .D → Station → ℕ) (#g
   Post = walkOf 𝓤 H A (ended w X) (stayed w X) (clauses w X F 𝓤 H A) .post ((κs, qs, tt, a, at), tt)
 
   abbrev Arr : Fml
-  Arr = Body (mem (Array E 255)) b′ o′ γ′
+  Arr = Body (mem (Array E records)) b′ o′ γ′
 
   -- [the tokens; what the column is now; its borrow]
   abbrev Closed : List ℕ → List (Item 𝓤) → List (Item 𝓤)
-  Closed zs Γ = ‵ (flft κ q) ∷ ‵ (flft κ′ q′) ∷ ‵ (fobs γ′ (Array E 255 .coded .code zs)) ∷ ‵ (fbor κ′ Arr) ∷ Γ
+  Closed zs Γ = ‵ (flft κ q) ∷ ‵ (flft κ′ q′) ∷ ‵ (fobs γ′ (Array E records .coded .code zs)) ∷ ‵ (fbor κ′ Arr) ∷ Γ
 
   exits : (zs : List ℕ) → zs ≡ filled (F k) ys us → ent 𝓤 (⋆ 𝓤 H A (Closed zs [])) (Post vunit)
   exits zs e =
@@ -143,13 +144,13 @@ module _ (w : Width) (X : Datum) (XL : Law X) (F : X .D → Station → ℕ) (#g
 
   -- the first j numbers of zs are those of the first j records
   abbrev Upto : Type 0
-  Upto = (j : ℕ) × ((zs : List ℕ) × ((j ≤ 255) × ((length zs ≡ 255) × (take j zs ≡ take j (map (F k) ys)))))
+  Upto = (j : ℕ) × ((zs : List ℕ) × ((j ≤ records) × ((length zs ≡ records) × (take j zs ≡ take j (map (F k) ys)))))
 
   abbrev Nearer : Upto → Upto → Type 0
-  Nearer i j = 255 - i .0 < 255 - j .0
+  Nearer i j = records - i .0 < records - j .0
 
   Nearer-wf : WellFounded Nearer
-  Nearer-wf = InvImage·wf (λ (j : Upto). 255 - j .0) (Nat·lt-wfRel .wf)
+  Nearer-wf = InvImage·wf (λ (j : Upto). records - j .0) (Nat·lt-wfRel .wf)
 
   module _ (𝓣 : Tables 𝓤 H) (known : Triple 𝓤 (𝓣 .C #g) (TheG w X F 𝓤 H A)) (l₀ l₁ l₂ l₃ l₄ l₅ l₆ l₇ l₈ l₉ l₁₀ l₁₁ l₁₂ l₁₃ l₁₄ : ℕ) where
     abbrev C : Calls 𝓤 H
@@ -187,12 +188,12 @@ module _ (w : Width) (X : Datum) (XL : Law X) (F : X .D → Station → ℕ) (#g
         move ! (8 ∷ 9 ∷ []) $ free1 ! $ move ! (6 ∷ 7 ∷ []) $ free1 ! $ move ! (4 ∷ 5 ∷ []) $ free1 ! $ free0 ! $
         keep ! (0 ∷ 1 ∷ 2 ∷ 3 ∷ []) $ by ! (exits zs e)
 
-    module _ (q″ : Share) (full : n ≡ 255) where
+    module _ (q″ : Share) (full : n ≡ records) where
       -- [the column's row; the register's; what shuts it; the column's open borrow; obs; auth; _14; …]
       abbrev Here : Upto → List (Item 𝓤)
       Here j =
           ‵ (cells E fullShare (j .1 .0) b′ o′) ∷ ‵ (cells R q″ ys b o) ∷ ‵ (fobor κ q (arr-parts (shares R) n .part q″ ys b o)) ∷ ‵ (fobor κ′ q′ Arr)
-          ∷ ‵ (fobs γ′ (Array E 255 .coded .code us)) ∷ ‵ (fauth γ′ (Array E 255 .coded .code us))
+          ∷ ‵ (fobs γ′ (Array E records .coded .code us)) ∷ ‵ (fauth γ′ (Array E records .coded .code us))
           ∷ Locals (fat fullShare (tyInt w64) l₄ 0 (vint w64 (j .0)))
 
       abbrev After : Out → SProp 𝓤
@@ -201,7 +202,7 @@ module _ (w : Width) (X : Datum) (XL : Law X) (F : X .D → Station → ℕ) (#g
       abbrev Turned : Upto → Out → SProp 𝓤
       Turned j = afterTurn 𝓤 H (Below 𝓤 H A Nearer Here j) After
 
-      turn-at : (j : Upto) (t : Bool) → ltb (j .0) 255 ≡ t → Sq W (Here j) (runs C Λ En (turn w #g) (anyQ (Turned j)))
+      turn-at : (j : Upto) (t : Bool) → ltb (j .0) records ≡ t → Sq W (Here j) (runs C Λ En (turn w #g) (anyQ (Turned j)))
       unfolding afterTurn
       turn-at j true e =
           assigns ! (bin ! (load ! (from ! (stop !)) (look ! 26 refl)) (lit ! tt) tt) (from ! (stop !)) (init ! 20 refl (tt, tt)) $
@@ -238,13 +239,13 @@ module _ (w : Width) (X : Datum) (XL : Law X) (F : X .D → Station → ℕ) (#g
           (store ! 26 refl (tt, record { fits = next-fits })) $
           forget ! 6 refl $ forget ! 8 refl $ forget ! 10 refl $ forget ! 12 refl $ forget ! 14 refl $ forget ! 16 refl $ forget ! 18 refl $ forget ! 20 refl $
           again ! Nearer Here j (j .0 + 1, (set (j .1 .0) (j .0) r, (add-one-le l255, (length-set (j .1 .0) (j .0) r ∙ j .1 .1 .1 .0, same r is))))
-          (add-one-dec 255 (j .0) l255)))))))
+          (add-one-dec records (j .0) l255)))))))
         where
           s : Station
           s = getD ys (j .0) spec.blank
 
-          l255 : j .0 < 255
-          l255 = ltb→lt (j .0) 255 (subst T (sym e) tt)
+          l255 : j .0 < records
+          l255 = ltb→lt (j .0) records (subst T (sym e) tt)
 
           l : j .0 < n
           l = subst (λ (m : ℕ). j .0 < m) (sym full) l255
@@ -268,17 +269,17 @@ module _ (w : Width) (X : Datum) (XL : Law X) (F : X .D → Station → ℕ) (#g
           assigns ! (bin ! (load ! (from ! (stop !)) (look ! 26 refl)) (lit ! tt) tt) (from ! (stop !)) (init ! 20 refl (tt, tt)) $
           rewrite ! 20 (λ (t : Bool). ‵ (fat fullShare tyBool l₇ 0 (vbool t))) e refl $ leaves-loop ! (load ! (from ! (stop !)) (look ! 20 refl)) $
           exec ! C Λ En at-end (atRet En Post) $
-          move ! (1 ∷ 2 ∷ []) $ shuts-slice ! tt R q″ ys b o $ move ! (1 ∷ 2 ∷ 3 ∷ 4 ∷ []) $ closes-array ! tt E 255 (j .1 .0) (j .1 .1 .1 .0) b′ o′ $
+          move ! (1 ∷ 2 ∷ []) $ shuts-slice ! tt R q″ ys b o $ move ! (1 ∷ 2 ∷ 3 ∷ 4 ∷ []) $ closes-array ! tt E records (j .1 .0) (j .1 .1 .1 .0) b′ o′ $
           move ! (3 ∷ 2 ∷ []) $ forget ! 18 refl $ forget ! 24 refl $
-          finish (j .1 .0) (all ∙ sym (yes-first (eqb n 255) (map (F k) ys) us (subst (λ (m : ℕ). T (eqb m 255)) (sym full) tt)))
+          finish (j .1 .0) (all ∙ sym (yes-first (eqb n records) (map (F k) ys) us (subst (λ (m : ℕ). T (eqb m records)) (sym full) tt)))
         where
-          at-last : 255 ≤ j .0
-          at-last = nltb→le (j .0) 255 (subst (λ (t : Bool). T (not t)) (sym e) tt)
+          at-last : records ≤ j .0
+          at-last = nltb→le (j .0) records (subst (λ (t : Bool). T (not t)) (sym e) tt)
 
           all : j .1 .0 ≡ map (F k) ys
           all =
               sym (take-all (j .0) (j .1 .0) (subst (λ (m : ℕ). m ≤ j .0) (sym (j .1 .1 .1 .0)) at-last)) ∙ j .1 .1 .1 .1
               ∙ take-all (j .0) (map (F k) ys) (subst (λ (m : ℕ). m ≤ j .0) (sym (length-map ys (F k) ∙ full)) at-last)
 
-      pub looped : (long : length us ≡ 255) → Sq W (Here (0, (us, (zero-le, (long, refl))))) (runs C Λ En (loop (turn w #g)) (anyQ After))
-      looped long = loops ! 𝓣 Nearer Nearer-wf Here (λ j. turn-at j (ltb (j .0) 255) refl) (0, (us, (zero-le, (long, refl))))
+      pub looped : (long : length us ≡ records) → Sq W (Here (0, (us, (zero-le, (long, refl))))) (runs C Λ En (loop (turn w #g)) (anyQ After))
+      looped long = loops ! 𝓣 Nearer Nearer-wf Here (λ j. turn-at j (ltb (j .0) records) refl) (0, (us, (zero-le, (long, refl))))

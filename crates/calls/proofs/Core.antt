@@ -39,6 +39,7 @@ use denote.Triple.Statement.{Contract, Triple}
 use denote.Triple.Spec.{tripleOf}
 use denote.Triple.Call.{calls-at}
 use denote.Triple.Clauses.{Clauses, Ended, ensured, lasts, closing}
+use Rattle.limits.specs.Limits.{records}
 use Rattle.register.specs.Sheet.{Leaf, Leaves}
 use Rattle.calls.proofs.Datum.{Datum, row, Law}
 
@@ -76,18 +77,18 @@ pub record LawO {Z Y : Datum} (o : Result Z Y) : Type 2 where
   pub law : {M : Type 1} (𝓤 : URA M) (H : Heap 𝓤) (A : Atoms 𝓤) (W : Given 𝓤 H A) → Lawful 𝓤 H A (rowO o)
 
 abbrev A16 : RattleType
-A16 = Array u16 255
+A16 = Array u16 records
 
 abbrev A32 : RattleType
-A32 = Array u32 255
+A32 = Array u32 records
 
 abbrev pub ended : (X : Datum) {Z Y : Datum} → Result Z Y → Ended
 ended X o = record {
   signature = record {
     lifetimes = 3;
     outlives = [];
-    params = plain (λ _. usize) ∷ mutSliceOf (0 ∷ []) tt (plain (λ _. u16)) ∷ mutRefTo (1 ∷ []) tt (arrayOf (plain (λ _. u16)) 255)
-        ∷ mutRefTo (2 ∷ []) tt (arrayOf (plain (λ _. u32)) 255) ∷ plain (λ _. row X) ∷ [];
+    params = plain (λ _. usize) ∷ mutSliceOf (0 ∷ []) tt (plain (λ _. u16)) ∷ mutRefTo (1 ∷ []) tt (arrayOf (plain (λ _. u16)) records)
+        ∷ mutRefTo (2 ∷ []) tt (arrayOf (plain (λ _. u32)) records) ∷ plain (λ _. row X) ∷ [];
     result = plain (λ _. rowO o);
   };
   kept = (yes, (yes, (yes, (yes, (yes, tt)))));

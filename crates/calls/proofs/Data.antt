@@ -17,15 +17,15 @@ use Rattle.register.proofs.Rate as Q
 use Rattle.register.proofs.Rate.Laws as Q′
 use Rattle.ship.proofs.Ship as S
 use Rattle.ship.proofs.Ship.Laws as S′
-use Rattle.choosing.proofs.Ask as C
-use Rattle.choosing.proofs.Ask.Laws as C′
+use Rattle.choosing.proofs.Wanted as C
+use Rattle.choosing.proofs.Wanted.Laws as C′
 use Rattle.reporting.proofs.Time as T
 use Rattle.reporting.proofs.Time.Laws as T′
-use Rattle.cores.specs.declared.Out.{Out}
-use Rattle.cores.proofs.Reply as Y
-use Rattle.cores.proofs.Reply.Laws as Y′
-use Rattle.cores.proofs.Out as D
-use Rattle.cores.proofs.Out.Laws as D′
+use Rattle.answering.specs.declared.Out.{Out}
+use Rattle.answering.proofs.Reply as Y
+use Rattle.answering.proofs.Reply.Laws as Y′
+use Rattle.answering.proofs.Out as D
+use Rattle.answering.proofs.Out.Laws as D′
 use Rattle.calls.proofs.Core.{Result, Parts, LawO}
 use Rattle.calls.proofs.Datum.{Datum, row, Law, struct, struct-law, number, number-law}
 

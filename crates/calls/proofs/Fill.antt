@@ -31,6 +31,7 @@ use denote.Steps.{owned, facts, heard, nothing}
 use denote.Triple.Statement.{Triple}
 use denote.Triple.Call.{calls-at}
 use denote.Triple.Clauses.{ensured, lasts}
+use Rattle.limits.specs.Limits.{records}
 use Rattle.register.specs.declared.Station.{Station}
 use Rattle.register.specs.Sheet.{filled}
 use Rattle.calls.proofs.Datum.{Datum, row, Law}
@@ -42,7 +43,7 @@ module _ (w : Width) (X : Datum) (XL : Law X) (F : X .D → Station → ℕ) (#f
     {M : Type 1} (𝓤 : URA M) (H : Heap 𝓤) (A : Atoms 𝓤) (W : Given 𝓤 H A) (ℓ : Lifetime) (κ : Lft) (q : Share) (γ : GName) (b o : ℕ) (ys : List Station)
     (lo : ℕ) (us : List ℕ) (k : X .D) (gk : Is (row X) k (XL .val k ∷ [])) where
   abbrev Col : RattleType
-  Col = Array (UInt w) 255
+  Col = Array (UInt w) records
 
   abbrev x : GName → RefT (List Station)
   x δ = record { ptr = (b, o); name = δ; now = ys }

@@ -3,20 +3,21 @@
 use mathlib.Core.Path.{_≡_, refl, sym, ap, _∙_}
 use mathlib.Core.Bool.{Bool, true, false}
 use mathlib.Core.List.{List, [], _∷_, map}
-use Prim.Native.Nat.{ℕ, zero, suc, _+_, _%_}
+use Prim.Native.Nat.{ℕ, zero, suc, _+_}
 use native.Mathlib.Nat.{add-zero, add-suc}
 use native.Mathlib.Omega.{arith}
 use borrow.Author.Tests.{eqb-true}
 use lib.Dec.{eqb}
 use lib.ListN.{length, drop, length-append, length-take, length-drop, length-map}
 use Rattle.laws.specs.Loops.{upto}
+use Rattle.limits.specs.Limits.{slotTimes, records}
 use Rattle.numbers.specs.declared.Refusal.the-variants.{OtherLength}
-use Rattle.book.specs.Book.{slotTimes, records, holders, countsOf, talliesOf}
+use Rattle.book.specs.Book.{holders, countsOf, talliesOf}
 use Rattle.book.specs.Pass.{Moment, momentOf, passed, passes}
 use Rattle.book.specs.Sizes.{sized, allSized}
 use Rattle.book.proofs.Lengths.{passes-sizes}
 use Rattle.book.proofs.Once.{parts-make}
-use Rattle.choosing.specs.declared.Ask.{Ask as ChooseAsk}
+use Rattle.choosing.specs.declared.Wanted.{Wanted}
 use Rattle.choosing.specs.Choosing.{chooseAnswer, chooseTests}
 use Rattle.register.specs.declared.Station.{Station}
 use Rattle.register.specs.declared.Watch.{Watch}
@@ -25,9 +26,9 @@ use Rattle.register.specs.declared.What.the-variants.{Nothing, Hear, Plan, Own,
 use Rattle.register.specs.declared.Ask.{Ask}
 use Rattle.register.specs.Register.{tallyOf, wordOf, settle}
 use Rattle.register.specs.Sheet.{Out, settledBy, out}
-use Rattle.cores.specs.declared.Answer.the-variants.{Passed, Refused}
-use Rattle.cores.specs.declared.Reply.{Reply}
-use Rattle.cores.specs.Core.{
+use Rattle.answering.specs.declared.Answer.the-variants.{Passed, Refused}
+use Rattle.answering.specs.declared.Reply.{Reply}
+use Rattle.answering.specs.Answering.{
   refusedOut,
   standingOf,
   watchWith,
@@ -103,7 +104,7 @@ abbrev ends : List Station → Core → Out Reply (List ℕ)
 ends reg k = out (k .answer) (settledBy (settle (k .order)) (k .left) (k .right) reg) (k .book)
 
 -- where both lengths are right
-module _ (w : Watch) (reg : List Station) (book : List ℕ) (is : eqb (length reg) 255 ≡ true) (size : eqb (length book) slotTimes ≡ true) (j : ℕ) where
+module _ (w : Watch) (reg : List Station) (book : List ℕ) (is : eqb (length reg) records ≡ true) (size : eqb (length book) slotTimes ≡ true) (j : ℕ) where
   abbrev us : List ℕ
   us = map (tallyOf (asked w j Nothing)) reg
 
@@ -147,7 +148,7 @@ module _ (w : Watch) (reg : List Station) (book : List ℕ) (is : eqb (length re
 
     apart : callOf next stations (slots w us book j) ≡ ends stations (core k)
     apart =
-        let full-then : eqb (length stations) 255 ≡ true = ap (λ (n : ℕ). eqb n 255) (aged-length j (tallies w us book j) vs reg) ∙ is in
+        let full-then : eqb (length stations) records ≡ true = ap (λ (n : ℕ). eqb n records) (aged-length j (tallies w us book j) vs reg) ∙ is in
         rw full-then (ap (ends stations) core-next)
 
     both-right : Apart w reg book j k q
@@ -157,7 +158,7 @@ module _ (w : Watch) (reg : List Station) (book : List ℕ) (is : eqb (length re
         together ∙ (λ i. out (c .answer) (sym on i) (c .book)) ∙ sym apart ∙ ap (λ (o : Out Reply (List ℕ)). thenAsked o k q) (sym before)
 
 -- where the register has another length, nothing passes
-module _ (w : Watch) (reg : List Station) (book : List ℕ) (other : eqb (length reg) 255 ≡ false) where
+module _ (w : Watch) (reg : List Station) (book : List ℕ) (other : eqb (length reg) records ≡ false) where
   as-of-none : (n : ℕ) (q : What) → callOf (asked w n q) reg book ≡ out (coreBy q w 0 [] [] [] .answer) reg book
   unfolding coreOf firstOf
   as-of-none n q = rw other
@@ -168,7 +169,7 @@ module _ (w : Watch) (reg : List Station) (book : List ℕ) (other : eqb (length
       as-of-none (j + k) q ∙ sym (as-of-none k q) ∙ ap (λ (o : Out Reply (List ℕ)). thenAsked o k q) (sym (as-of-none j Nothing))
 
 -- nor where the book has
-module _ (w : Watch) (reg : List Station) (book : List ℕ) (is : eqb (length reg) 255 ≡ true) (other : eqb (length book) slotTimes ≡ false) where
+module _ (w : Watch) (reg : List Station) (book : List ℕ) (is : eqb (length reg) records ≡ true) (other : eqb (length book) slotTimes ≡ false) where
   abbrev reply : Reply
   reply = record { watch = w; answer = Refused OtherLength }
 
@@ -184,13 +185,13 @@ module _ (w : Watch) (reg : List Station) (book : List ℕ) (is : eqb (length re
   refused-as n q e =
       let us = map (tallyOf (asked w n q)) reg in
       let vs = map (wordOf (asked w n q)) reg in
-      rw (is, none-first n us, e us vs) (λ i. out reply (all-stay (asked w n q) reg vs (eqb-true (length reg) 255 is) i) book)
+      rw (is, none-first n us, e us vs) (λ i. out reply (all-stay (asked w n q) reg vs (eqb-true (length reg) records is) i) book)
 
   pass-refused : (n : ℕ) → callOf (asked w n Nothing) reg book ≡ out reply reg book
   unfolding passedOut
   pass-refused n = refused-as n Nothing (λ us vs. rw (is, other))
 
-  choose-refused : (n : ℕ) (a : ChooseAsk) → callOf (asked w n (Choose a)) reg book ≡ out reply reg book
+  choose-refused : (n : ℕ) (a : Wanted) → callOf (asked w n (Choose a)) reg book ≡ out reply reg book
   unfolding chooseCore chooseAnswer chooseTests allSized sized
   choose-refused n a = refused-as n (Choose a) (λ us vs. rw (is, other))
 
@@ -219,9 +220,9 @@ module _ (w : Watch) (reg : List Station) (book : List ℕ) (is : eqb (length re
 -- ---- whatever the lengths
 
 pub passes-apart : PassesApart
-passes-apart w j k q reg book = go (eqb (length reg) 255) (eqb (length book) slotTimes) refl refl
+passes-apart w j k q reg book = go (eqb (length reg) records) (eqb (length book) slotTimes) refl refl
   where
-    go : (s t : Bool) → eqb (length reg) 255 ≡ s → eqb (length book) slotTimes ≡ t → Apart w reg book j k q
+    go : (s t : Bool) → eqb (length reg) records ≡ s → eqb (length book) slotTimes ≡ t → Apart w reg book j k q
     go true true is size = both-right w reg book is size j k q
     go true false is other = other-book w reg book is other j k q
     go false t other e = other-register w reg book other j k q

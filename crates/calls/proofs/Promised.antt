@@ -10,6 +10,7 @@ use lib.ListN.{length, replicate, length-map}
 use Rattle.laws.specs.Tests.{pick, both}
 use Rattle.laws.specs.Counting.{sum}
 use Rattle.laws.specs.Loops.{upto}
+use Rattle.limits.specs.Limits.{slotTimes, records}
 use Rattle.numbers.specs.declared.Refusal.{Refusal}
 use Rattle.numbers.specs.declared.Refusal.the-variants.{OtherLength}
 use Rattle.ship.specs.declared.Owned.{Owned}
@@ -17,7 +18,6 @@ use Rattle.ship.specs.declared.Owned.the-variants.{Done as IsSet, Refused as No
 use Rattle.ship.specs.Ship.{ownAnswer}
 use Rattle.book.specs.declared.planning.Planned.{Planned}
 use Rattle.book.specs.declared.planning.Planned.the-variants.{Done as IsPlanned, Refused as NotPlanned}
-use Rattle.book.specs.Book.{slotTimes, records}
 use Rattle.book.specs.Pass.{momentOf, passes}
 use Rattle.book.specs.Planning.{planAnswer, planLeft}
 use Rattle.book.proofs.Once.{tallies-back, counts-back}
@@ -26,7 +26,7 @@ use Rattle.hearing.specs.declared.Heard.{Heard}
 use Rattle.hearing.specs.declared.Heard.the-variants.{Done as IsHeard, Refused as NotHeard}
 use Rattle.hearing.specs.declared.Told.the-variants.{Station as Told, Refused as NotTold}
 use Rattle.hearing.specs.Hear.{listsOf, hearAnswer, hearLeft}
-use Rattle.choosing.specs.declared.Ask.{Ask as ChooseAsk}
+use Rattle.choosing.specs.declared.Wanted.{Wanted}
 use Rattle.choosing.specs.declared.Chosen.{Chosen}
 use Rattle.choosing.specs.declared.Chosen.the-variants.{Done as IsChosen, Refused as NotChosen}
 use Rattle.choosing.specs.Choosing.{chooseAnswer, chooseLeft, listsOf as chooseLists}
@@ -39,10 +39,10 @@ use Rattle.register.specs.declared.What.{What}
 use Rattle.register.specs.declared.What.the-variants.{Nothing, Hear, Plan, Own, Choose, Report, New, Sum}
 use Rattle.register.specs.Register.{tallyOf, wordOf, settle}
 use Rattle.register.specs.Sheet.{Out as Ended, settledBy, out}
-use Rattle.cores.specs.declared.Answer.the-variants.{Passed, Refused, Sum as Added}
-use Rattle.cores.specs.declared.Reply.{Reply}
-use Rattle.cores.specs.declared.Out.{Out}
-use Rattle.cores.specs.Core.{
+use Rattle.answering.specs.declared.Answer.the-variants.{Passed, Refused, Sum as Added}
+use Rattle.answering.specs.declared.Reply.{Reply}
+use Rattle.answering.specs.declared.Out.{Out}
+use Rattle.answering.specs.Answering.{
   nothing,
   outWith,
   refusedOut,
@@ -139,7 +139,7 @@ module _ (w : Watch) (us vs bs : List ℕ) where
   own-by (IsSet s) = λ r e. cc
   own-by (NotSet n) = refused-so n
 
-  choose-by : (a : ChooseAsk) (h : Chosen)
+  choose-by : (a : Wanted) (h : Chosen)
       → KeepsAll w us vs bs (leftChosen w h (chooseLeft (chooseLists bs us vs) (standingOf w) (w .channel .plan) a h))
   unfolding chosenOut
   choose-by a (IsChosen c) = λ r e. cc
@@ -200,10 +200,10 @@ module _ (w : Watch) (q : What) (reg : List Station) (book : List ℕ) where
       pick t (out (core .answer) (settledBy (settle (core .order)) (core .left) (core .right) reg) (core .book))
       (out (unsized (asked w 0 q)) reg book)
 
-  by-length : (n : Refusal) (t : Bool) → eqb (length reg) 255 ≡ t → ends t .answer .answer ≡ Refused n
+  by-length : (n : Refusal) (t : Bool) → eqb (length reg) records ≡ t → ends t .answer .answer ≡ Refused n
       → (ends t .reg ≡ reg) × (ends t .book ≡ book) × (ends t .answer .watch ≡ w)
   by-length n true is e =
-      let size = eqb-true (length reg) 255 is in
+      let size = eqb-true (length reg) records is in
       let left = core-left n size e in (
         ap (λ (k : Core). settledBy (settle (k .order)) (k .left) (k .right) reg) left ∙ all-stay (asked w 0 q) reg vs size,
         ap (λ (k : Core). k .book) left,
@@ -212,4 +212,4 @@ module _ (w : Watch) (q : What) (reg : List Station) (book : List ℕ) where
   by-length n false is e = (refl, refl, watch-left n e)
 
 pub refused-keeps-all : RefusedKeepsAll
-refused-keeps-all w q reg book n = by-length w q reg book n (eqb (length reg) 255) refl
+refused-keeps-all w q reg book n = by-length w q reg book n (eqb (length reg) records) refl

@@ -4,9 +4,10 @@ use Prim.Native.Nat.{ℕ}
 use mathlib.Core.Bool.{false}
 use mathlib.Core.List.{List, []}
 use lib.Dec.{eqb}
+use Rattle.limits.specs.Limits.{records}
 use Rattle.hearing.specs.declared.Telling.{Telling}
 use Rattle.hearing.specs.declared.Told.the-variants.{Station, Refused}
-use Rattle.choosing.specs.declared.Ask.{Ask as ChooseAsk}
+use Rattle.choosing.specs.declared.Wanted.{Wanted}
 use Rattle.reporting.specs.declared.Time.{Time}
 use Rattle.ship.specs.declared.Ship.{Ship}
 use Rattle.register.specs.declared.Rate.{Rate}
@@ -16,12 +17,12 @@ use Rattle.register.specs.declared.What.the-variants.{Nothing, Hear, Plan, Own,
 use Rattle.register.specs.declared.Ask.{Ask}
 use Rattle.register.specs.Register.{tallyOf, wordOf, settle}
 use Rattle.register.proofs.Sheet.{Refuses}
-use Rattle.cores.specs.Core.{Core, leaving, newOut, newBook, passedOut, sumOut, hearCore, planCore, ownCore, chooseCore, reportCore, coreBy, firstOf, coreOf}
+use Rattle.answering.specs.Answering.{Core, leaving, newOut, newBook, passedOut, sumOut, hearCore, planCore, ownCore, chooseCore, reportCore, coreBy, firstOf, coreOf}
 use Rattle.calls.specs.Calls.{unsized}
 
 -- that a core does so
 abbrev AsOfNone : (ℕ → List ℕ → List ℕ → List ℕ → Core) → Type 0
-AsOfNone K = (n : ℕ) (us vs bs : List ℕ) → eqb n 255 ≡ false → (K n us vs bs .answer ≡ K 0 [] [] [] .answer) × (K n us vs bs .book ≡ bs)
+AsOfNone K = (n : ℕ) (us vs bs : List ℕ) → eqb n records ≡ false → (K n us vs bs .answer ≡ K 0 [] [] [] .answer) × (K n us vs bs .book ≡ bs)
 
 pass-so : (w : Watch) → AsOfNone (λ n us vs bs. leaving (passedOut w n bs) us vs bs)
 unfolding passedOut
@@ -47,7 +48,7 @@ own-so : (w : Watch) (s : Ship) → AsOfNone (λ n. ownCore w s)
 unfolding ownCore
 own-so w s n us vs bs e = (refl, refl)
 
-choose-so : (w : Watch) (q : ChooseAsk) → AsOfNone (chooseCore w q)
+choose-so : (w : Watch) (q : Wanted) → AsOfNone (chooseCore w q)
 unfolding chooseCore
 choose-so w q n us vs bs e = rw e (refl, refl)
 

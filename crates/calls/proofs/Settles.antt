@@ -31,6 +31,7 @@ use denote.Steps.{owned, facts, heard, nothing}
 use denote.Triple.Statement.{Triple}
 use denote.Triple.Call.{calls-at}
 use denote.Triple.Clauses.{ensured, lasts}
+use Rattle.limits.specs.Limits.{records}
 use Rattle.register.specs.declared.Station.{Station}
 use Rattle.register.specs.Sheet.{settled}
 use Rattle.calls.proofs.Datum.{Datum, row, Law}
@@ -38,10 +39,10 @@ use Rattle.calls.proofs.Row.{R}
 use Rattle.calls.proofs.BackCode.{ended, clauses, TheBack}
 
 abbrev A16 : RattleType
-A16 = Array u16 255
+A16 = Array u16 records
 
 abbrev A32 : RattleType
-A32 = Array u32 255
+A32 = Array u32 records
 
 module _ (Z : Datum) (ZL : Law Z) (S : Z .D → ℕ → Station → ℕ → ℕ → Station) (#f : Name)
     {M : Type 1} (𝓤 : URA M) (H : Heap 𝓤) (A : Atoms 𝓤) (W : Given 𝓤 H A) (ℓ : Lifetime) (κ : Lft) (q : Share) (γ : GName) (b o : ℕ) (ys : List Station)

@@ -16,6 +16,7 @@ use lib.Seq.{take-suc, take-suc-set, take-all, drop-set-lt, drop-drop, getD-set-
 use lib.Dec.{T, eqb, eqb→eq}
 use borrow.Author.Tests.{eq-eqb, ne-eqb}
 use Rattle.laws.specs.Tests.{pick}
+use Rattle.limits.specs.Limits.{records}
 use Rattle.register.specs.declared.Station.{Station}
 use Rattle.register.specs.Register.{blank}
 use Rattle.register.specs.Sheet.{settledBy}
@@ -29,7 +30,7 @@ module _ (S : ℕ → Station → ℕ → ℕ → Station) (ys : List Station) (
   long = length-numbered (λ i s. S i s (getD us i 0) (getD vs i 0)) 0 ys
 
   abbrev pub Upto : Type 0
-  Upto = (j : ℕ) × ((zs : List Station) × ((j ≤ 255) × ((length zs ≡ length ys) × ((take j zs ≡ take j target) × (drop j zs ≡ drop j ys)))))
+  Upto = (j : ℕ) × ((zs : List Station) × ((j ≤ records) × ((length zs ≡ length ys) × ((take j zs ≡ take j target) × (drop j zs ≡ drop j ys)))))
 
   module _ (j : Upto) where
     pub same : j .0 < length ys → (r : Station) → r ≡ S (j .0) (getD (j .1 .0) (j .0) blank) (getD us (j .0) 0) (getD vs (j .0) 0)
@@ -57,7 +58,7 @@ module _ (S : ℕ → Station → ℕ → ℕ → Station) (ys : List Station) (
         less : j .0 < j .0 + 1
         less = omega arith
 
-    pub all : length ys ≡ 255 → 255 ≤ j .0 → j .1 .0 ≡ target
+    pub all : length ys ≡ records → records ≤ j .0 → j .1 .0 ≡ target
     all full at-last =
         sym (take-all (j .0) (j .1 .0) (subst (λ (i : ℕ). i ≤ j .0) (sym (j .1 .1 .1 .0 ∙ full)) at-last)) ∙ j .1 .1 .1 .1 .0
         ∙ take-all (j .0) target (subst (λ (i : ℕ). i ≤ j .0) (sym (long ∙ full)) at-last)

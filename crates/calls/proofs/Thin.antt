@@ -41,6 +41,7 @@ use denote.Triple.Statement.{Triple}
 use denote.Triple.Spec.{Meets}
 use denote.Triple.Clauses.{Clauses, Ended, closing}
 use denote.Triple.Walked.{says, Stays, gave-slice, stay-dropped, walkOf, Walks, ends-at, walked, goes-gave-slice, goes-dropped, walk-meets}
+use Rattle.limits.specs.Limits.{records}
 use Rattle.register.specs.declared.Station.{Station}
 use Rattle.register.specs.Sheet.{Leaf, Leaves, Ends, sheeted, filled}
 use Rattle.register.proofs.Sheet.{Refuses, bridge}
@@ -62,13 +63,13 @@ abbrev of : Ty → Ty
 of = sliceTy
 
 abbrev a16 : Ty
-a16 = tyArray (tyInt w16) 255
+a16 = tyArray (tyInt w16) records
 
 abbrev a32 : Ty
-a32 = tyArray (tyInt w32) 255
+a32 = tyArray (tyInt w32) records
 
 abbrev noughts : List ℕ
-noughts = replicate 255 0
+noughts = replicate records 0
 
 abbrev pub function : (X Y : Datum) {Z : Datum} → Result Z Y → Name → Name → Name → Name → Fn
 function X Y {Z} o #out16 #out32 #core #back = record {
@@ -83,8 +84,8 @@ function X Y {Z} o #out16 #out32 #core #back = record {
       ∷ local (of (tyRef erased mut (tyInt w16))) valueLocal ∷ local (tyRef erased mut a16) valueLocal ∷ local (tyRef erased mut a32) valueLocal
       ∷ local (tyRef erased mut stations) valueLocal ∷ local (of (tyRef erased mut stations)) valueLocal ∷ local (tyRef erased imm a16) valueLocal
       ∷ local (tyRef erased imm a32) valueLocal ∷ [];
-  body = seq (assign (place 4 []) (repeat (int w16 0) 255))
-      (seq (assign (place 5 []) (repeat (int w32 0) 255))
+  body = seq (assign (place 4 []) (repeat (int w16 0) records))
+      (seq (assign (place 5 []) (repeat (int w32 0) records))
       (seq (assign (place 8 []) (addrOf (place 1 (field 0 ∷ deref T′.mir ∷ []))))
       (seq (assign (place 9 []) (aggregate (copy (place 8 []) ∷ copy (place 1 (field 1 ∷ [])) ∷ [])))
       (seq (assign (place 10 []) (addrOf (place 4 [])))
@@ -180,19 +181,19 @@ module _ (X : Datum) (XL : Law X) (Z : Datum) (ZL : Law Z) (Y : Datum) (YL : Law
         pass1 ! (init ! 42 refl (tt, (tt, (record { fits = gn .0 }, tt)))) $ pass1 ! (init ! 40 refl (tt, (tt, (record { fits = g₁ .0 }, tt)))) $
         pass1 ! (init ! 38 refl (XL .law 𝓤 H A W .typed k _ gk .0)) $ pass0 ! $
         owned ! u16 (Is u16) (uint-makes 𝓤 H A W w16) 0 (vint w16 0 ∷ []) (refl, lit< tt) $
-        use1 W (‵ (Array u16 255 .own noughts (arrayVal (replicate 255 (vint w16 0)) ∷ [])))
-        (array-repeat 𝓤 H A W u16 (uint-copy 𝓤 H A W w16) 255 0 (vint w16 0)) $
-        peeks ! (Array u16 255) (Is (Array u16 255)) (shows 𝓤 H A (Array u16 255)) noughts (arrayVal (replicate 255 (vint w16 0)) ∷ []) (λ z16.
-        assigns ! (rep ! 255 (lit ! tt)) (from ! (stop !)) (init ! 37 refl (array-lawful 𝓤 H A W u16 (uint-lawful 𝓤 H A W w16) 255 .typed noughts _ z16 .0)) $
-        move ! (37 ∷ 0 ∷ []) $ use2 W (‵ (mem (Array u16 255) .lies noughts l₄ 0))
-        (in-place 𝓤 H A W w16 255 noughts (arrayVal (replicate 255 (vint w16 0))) l₄) $
+        use1 W (‵ (Array u16 records .own noughts (arrayVal (replicate records (vint w16 0)) ∷ [])))
+        (array-repeat 𝓤 H A W u16 (uint-copy 𝓤 H A W w16) records 0 (vint w16 0)) $
+        peeks ! (Array u16 records) (Is (Array u16 records)) (shows 𝓤 H A (Array u16 records)) noughts (arrayVal (replicate records (vint w16 0)) ∷ []) (λ z16.
+        assigns ! (rep ! records (lit ! tt)) (from ! (stop !)) (init ! 37 refl (array-lawful 𝓤 H A W u16 (uint-lawful 𝓤 H A W w16) records .typed noughts _ z16 .0)) $
+        move ! (37 ∷ 0 ∷ []) $ use2 W (‵ (mem (Array u16 records) .lies noughts l₄ 0))
+        (in-place 𝓤 H A W w16 records noughts (arrayVal (replicate records (vint w16 0))) l₄) $
         owned ! u32 (Is u32) (uint-makes 𝓤 H A W w32) 0 (vint w32 0 ∷ []) (refl, lit< tt) $
-        use1 W (‵ (Array u32 255 .own noughts (arrayVal (replicate 255 (vint w32 0)) ∷ [])))
-        (array-repeat 𝓤 H A W u32 (uint-copy 𝓤 H A W w32) 255 0 (vint w32 0)) $
-        peeks ! (Array u32 255) (Is (Array u32 255)) (shows 𝓤 H A (Array u32 255)) noughts (arrayVal (replicate 255 (vint w32 0)) ∷ []) (λ z32.
-        assigns ! (rep ! 255 (lit ! tt)) (from ! (stop !)) (init ! 36 refl (array-lawful 𝓤 H A W u32 (uint-lawful 𝓤 H A W w32) 255 .typed noughts _ z32 .0)) $
-        move ! (36 ∷ 0 ∷ []) $ use2 W (‵ (mem (Array u32 255) .lies noughts l₅ 0))
-        (in-place 𝓤 H A W w32 255 noughts (arrayVal (replicate 255 (vint w32 0))) l₅) $
+        use1 W (‵ (Array u32 records .own noughts (arrayVal (replicate records (vint w32 0)) ∷ [])))
+        (array-repeat 𝓤 H A W u32 (uint-copy 𝓤 H A W w32) records 0 (vint w32 0)) $
+        peeks ! (Array u32 records) (Is (Array u32 records)) (shows 𝓤 H A (Array u32 records)) noughts (arrayVal (replicate records (vint w32 0)) ∷ []) (λ z32.
+        assigns ! (rep ! records (lit ! tt)) (from ! (stop !)) (init ! 36 refl (array-lawful 𝓤 H A W u32 (uint-lawful 𝓤 H A W w32) records .typed noughts _ z32 .0)) $
+        move ! (36 ∷ 0 ∷ []) $ use2 W (‵ (mem (Array u32 records) .lies noughts l₅ 0))
+        (in-place 𝓤 H A W w32 records noughts (arrayVal (replicate records (vint w32 0))) l₅) $
         move ! (47 ∷ []) $ fsplit ! $ move ! (1 ∷ []) $ fsplit ! $ move ! (1 ∷ []) $ drop ! $ move ! (48 ∷ []) $ split ! $ move ! (1 ∷ []) $ split ! $
         move ! (1 ∷ []) $ drop ! $ move ! (3 ∷ 1 ∷ 5 ∷ 4 ∷ 2 ∷ 0 ∷ []) $
         assigns ! (addr ! (from ! (fld ! refl (hop ! (look-in ! 46 (sub ! 0 refl (whole !))) (stop !))))) (from ! (stop !)) (init ! 34 refl (tt, tt)) $
@@ -244,8 +245,8 @@ module _ (X : Datum) (XL : Law X) (Z : Datum) (ZL : Law Z) (Y : Datum) (YL : Law
         land ! (from ! (stop !)) (init ! 36 refl (nothing-lawful 𝓤 H A W .typed tt _ is₄ .0)) $
         assigns ! (of-opd ! (load ! (from ! (fld ! refl (stop !))) (look-in ! 38 (sub ! 1 refl (whole !))))) (from ! (stop !))
         (init ! 48 refl (YL .law 𝓤 H A W .typed (o .ans t) _ (pt .ans-is) .0)) $
-        move ! (2 ∷ []) $ use1 W (‵ (fat fullShare a16 l₄ 0 (only (avals 𝓤 H A W w16 255 us′)))) (to-local 𝓤 H A W w16 255 us′ l₄) $ move ! (3 ∷ []) $
-        use1 W (‵ (fat fullShare a32 l₅ 0 (only (avals 𝓤 H A W w32 255 vs′)))) (to-local 𝓤 H A W w32 255 vs′ l₅) $
+        move ! (2 ∷ []) $ use1 W (‵ (fat fullShare a16 l₄ 0 (only (avals 𝓤 H A W w16 records us′)))) (to-local 𝓤 H A W w16 records us′ l₄) $ move ! (3 ∷ []) $
+        use1 W (‵ (fat fullShare a32 l₅ 0 (only (avals 𝓤 H A W w32 records vs′)))) (to-local 𝓤 H A W w32 records vs′ l₅) $
         returns ! (look ! 48 refl) $ forget ! 48 refl $ forget ! 46 refl $ forget ! 44 refl $ forget ! 42 refl $ forget ! 1 refl $ forget ! 0 refl $
         forget ! 38 refl $ forget ! 36 refl $ forget ! 34 refl $ forget ! 32 refl $ forget ! 30 refl $ forget ! 28 refl $ forget ! 26 refl $
         forget ! 24 refl $ forget ! 22 refl $ forget ! 20 refl $ forget ! 18 refl $ forget ! 16 refl $ forget ! 14 refl $ forget ! 12 refl $

@@ -11,8 +11,8 @@ use Rattle.register.specs.declared.What.the-variants.{Hear}
 use Rattle.register.specs.declared.Ask.{Ask}
 use Rattle.register.specs.Register.{tallyOf, wordOf, settle}
 use Rattle.register.specs.Sheet.{Out, sheeted}
-use Rattle.cores.specs.declared.Reply.{Reply}
-use Rattle.cores.specs.Core.{coreOf}
+use Rattle.answering.specs.declared.Reply.{Reply}
+use Rattle.answering.specs.Answering.{coreOf}
 
 -- so many slots pass first, and then this is to be done
 abbrev pub asked : Watch → ℕ → What → Ask

@@ -10,8 +10,8 @@ use Rattle.register.specs.declared.What.{What}
 use Rattle.register.specs.declared.What.the-variants.{Nothing}
 use Rattle.register.specs.declared.Ask.{Ask}
 use Rattle.register.specs.Sheet.{Out, Ends}
-use Rattle.cores.specs.declared.Reply.{Reply}
-use Rattle.cores.specs.declared.Answer.the-variants.{Refused}
+use Rattle.answering.specs.declared.Reply.{Reply}
+use Rattle.answering.specs.declared.Answer.the-variants.{Refused}
 use Rattle.calls.specs.Calls.{asked, callOf}
 
 -- two answers and contents that meet the contract at the same input are equal

@@ -5,8 +5,9 @@ ghost use Rattle.register.specs.Register.{tallyOf, wordOf, settle};
 ghost use Rattle.register.specs.Sheet.{filled, settled, Ends};
 ghost use Rattle.register.specs.declared.What.the-variants.{Nothing, Plan, Own, Choose, Report, New, Sum};
 ghost use Rattle.calls.specs.Calls.{asked, callOf, heardIn};
-use cores::Reply;
+use answering::Reply;
 use hearing::tell_received;
+use limits::RECORDS;
 use register::Ask;
 use register::Order;
 use register::Rate;
@@ -17,12 +18,12 @@ use reporting::Time;
 use ship::Ship;
 
 // The first column.
-fn tallies_out(reg: &[Station], a: &mut [u16; 255], x: Ask)
+fn tallies_out(reg: &[Station], a: &mut [u16; RECORDS], x: Ask)
     ensures { λ _. ⌜ now (a .exit) ≡ filled (tallyOf x) (now (reg .entry)) (now (a .entry)) ⌝ }
 {
-    if reg.len() == 255 {
+    if reg.len() == RECORDS {
         let mut i = 0;
-        while i < 255 {
+        while i < RECORDS {
             a[i] = register::tally_of(reg[i], x);
             i += 1;
         }
@@ -30,12 +31,12 @@ fn tallies_out(reg: &[Station], a: &mut [u16; 255], x: Ask)
 }
 
 // The second column.
-fn words_out(reg: &[Station], a: &mut [u32; 255], x: Ask)
+fn words_out(reg: &[Station], a: &mut [u32; RECORDS], x: Ask)
     ensures { λ _. ⌜ now (a .exit) ≡ filled (wordOf x) (now (reg .entry)) (now (a .entry)) ⌝ }
 {
-    if reg.len() == 255 {
+    if reg.len() == RECORDS {
         let mut i = 0;
-        while i < 255 {
+        while i < RECORDS {
             a[i] = register::word_of(reg[i], x);
             i += 1;
         }
@@ -43,17 +44,17 @@ fn words_out(reg: &[Station], a: &mut [u32; 255], x: Ask)
 }
 
 // Back to the register: each record kept by its two numbers and the order, and then the one in which a station was entered.
-fn settle_back(reg: &mut [Station], a: &[u16; 255], b: &[u32; 255], z: Order)
+fn settle_back(reg: &mut [Station], a: &[u16; RECORDS], b: &[u32; RECORDS], z: Order)
     ensures { λ _. ⌜ now (reg .exit) ≡ settled (settle z) (now (reg .entry)) (now (a .entry)) (now (b .entry)) ⌝ }
 {
-    if reg.len() == 255 {
+    if reg.len() == RECORDS {
         let mut i = 0;
-        while i < 255 {
+        while i < RECORDS {
             reg[i] = register::keep(reg[i], a[i], b[i], z);
             i += 1;
         }
         let at = register::place(z);
-        if at < 255 {
+        if at < RECORDS {
             reg[at] = register::enter(reg[at], b[at], z);
         }
     }
@@ -63,11 +64,11 @@ fn settle_back(reg: &mut [Station], a: &[u16; 255], b: &[u32; 255], z: Order)
 pub fn call(reg: &mut [Station], book: &mut [u16], x: Ask) -> Reply
     ensures { λ r. ⌜ Ends (callOf x (now (reg .entry)) (now (book .entry))) r (now (reg .exit)) (now (book .exit)) ⌝ }
 {
-    let mut a = [0u16; 255];
-    let mut b = [0u32; 255];
+    let mut a = [0u16; RECORDS];
+    let mut b = [0u32; RECORDS];
     tallies_out(reg, &mut a, x);
     words_out(reg, &mut b, x);
-    let out = cores::core(reg.len(), book, &mut a, &mut b, x);
+    let out = answering::core(reg.len(), book, &mut a, &mut b, x);
     settle_back(reg, &a, &b, out.order);
     out.answer
 }
@@ -180,7 +181,7 @@ pub fn own(reg: &mut [Station], book: &mut [u16], w: Watch, s: Ship) -> Reply
     call(reg, book, x)
 }
 
-fn to_choose(w: Watch, q: choosing::Ask) -> Ask
+fn to_choose(w: Watch, q: choosing::Wanted) -> Ask
     ensures { λ r. ⌜ r ≡ asked w 0 (Choose q) ⌝ }
 {
     Ask {
@@ -191,7 +192,7 @@ fn to_choose(w: Watch, q: choosing::Ask) -> Ask
 }
 
 // Chooses an own slot: 20, 31, 30, 32, 33, 34, 35.
-pub fn choose(reg: &mut [Station], book: &mut [u16], w: Watch, q: choosing::Ask) -> Reply
+pub fn choose(reg: &mut [Station], book: &mut [u16], w: Watch, q: choosing::Wanted) -> Reply
     ensures { λ r. ⌜ Ends (callOf (asked w 0 (Choose q)) (now (reg .entry)) (now (book .entry))) r (now (reg .exit)) (now (book .exit)) ⌝ }
 {
     let x = to_choose(w, q);

@@ -1,7 +1,7 @@
 -- The check sequence: a register of 16 bits, all ones at first, goes through the bits as they are sent. Where the bit that
 -- leaves at the top differs from the bit that comes in, x^12 + x^5 + 1, which is 0x1021, is added to the rest.
 -- Assumes nothing.
-use Prim.Native.Nat.{ℕ, zero, suc, _+_, _-_, _*_, _/_, _%_, _^_}
+use Prim.Native.Nat.{ℕ, zero, suc, _-_, _*_, _/_, _%_, _^_}
 use mathlib.Core.List.{List, [], _∷_}
 use lib.Dec.{eqb}
 use lib.Bits.{bitXor}

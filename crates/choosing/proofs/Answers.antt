@@ -10,22 +10,23 @@ use lib.Dec.{T, ltb}
 use lib.ListN.{length}
 use Rattle.laws.specs.Tests.{both}
 use Rattle.laws.proofs.Tests.{was-false, was-true, both-no, between-yes, between-low, between-high}
+use Rattle.limits.specs.Limits.{frameSlots, slotTimes, records, leastTimeOut, mostTimeOut}
 use Rattle.numbers.specs.declared.Refusal.the-variants.{OtherLength, OutOfRange, NoPlan, WindowTaken, NoCandidate as None, DrawBack, BeyondBook}
 use Rattle.plan.specs.declared.Plan.{Plan}
 use Rattle.plan.specs.Plan.{InRange}
 use Rattle.book.specs.declared.Counts.{Counts}
 use Rattle.book.specs.declared.Standing.{Standing}
-use Rattle.book.specs.Book.{slotTimes, records, place, bookOf, countsOf}
+use Rattle.book.specs.Book.{place, bookOf, countsOf}
 use Rattle.book.specs.Planning.{planFits}
 use Rattle.book.proofs.Plans.{fits-is}
 use Rattle.book.proofs.Once.{slots-are, tallies-are, counts-are}
-use Rattle.choice.specs.declared.Window.{Window}
-use Rattle.choice.specs.declared.Picked.{Picked}
-use Rattle.choice.specs.declared.Picked.the-variants.{At, NoCandidate, SentBack}
-use Rattle.choice.specs.Window.{distanceIn}
-use Rattle.choice.specs.Choice.{choice}
-use Rattle.choice.proofs.Promised.{pick-is-candidate}
-use Rattle.choosing.specs.declared.Ask.{Ask}
+use Rattle.candidates.specs.declared.Window.{Window}
+use Rattle.candidates.specs.declared.Picked.{Picked}
+use Rattle.candidates.specs.declared.Picked.the-variants.{At, NoCandidate, SentBack}
+use Rattle.candidates.specs.Window.{distanceIn}
+use Rattle.candidates.specs.Choice.{choice}
+use Rattle.candidates.proofs.Promised.{pick-is-candidate}
+use Rattle.choosing.specs.declared.Wanted.{Wanted}
 use Rattle.choosing.specs.declared.Choice.{Choice}
 use Rattle.choosing.specs.declared.Chosen.{Chosen}
 use Rattle.choosing.specs.declared.Chosen.the-variants.{Done, Refused}
@@ -51,26 +52,26 @@ use Rattle.choosing.proofs.Meaning.{near, narrow}
 
 -- ---- what is asked
 
-module _ (p : Plan) (a : Ask) where
+module _ (p : Plan) (a : Wanted) where
   -- the plan has no window of k
   pub no-window : p .rate ≤ a .k → askFits p a ≡ false
   unfolding askFits
   no-window h = rw (le-ltb (a .k) (p .rate) h)
 
   -- the time-out is too short
-  pub too-short : a .timeout < 3 → askFits p a ≡ false
+  pub too-short : a .timeout < leastTimeOut → askFits p a ≡ false
   unfolding askFits
-  too-short h = ap (both (ltb (a .k) (p .rate))) (between-low 3 7 (a .timeout) h) ∙ both-no (ltb (a .k) (p .rate))
+  too-short h = ap (both (ltb (a .k) (p .rate))) (between-low leastTimeOut mostTimeOut (a .timeout) h) ∙ both-no (ltb (a .k) (p .rate))
 
   -- or too long
-  pub too-long : 7 < a .timeout → askFits p a ≡ false
+  pub too-long : mostTimeOut < a .timeout → askFits p a ≡ false
   unfolding askFits
-  too-long h = ap (both (ltb (a .k) (p .rate))) (between-high 3 7 (a .timeout) h) ∙ both-no (ltb (a .k) (p .rate))
+  too-long h = ap (both (ltb (a .k) (p .rate))) (between-high leastTimeOut mostTimeOut (a .timeout) h) ∙ both-no (ltb (a .k) (p .rate))
 
   -- it can be asked
-  pub can-be : a .k < p .rate → 3 ≤ a .timeout → a .timeout ≤ 7 → askFits p a ≡ true
+  pub can-be : a .k < p .rate → leastTimeOut ≤ a .timeout → a .timeout ≤ mostTimeOut → askFits p a ≡ true
   unfolding askFits
-  can-be h i j = ap (both (ltb (a .k) (p .rate))) (between-yes 3 7 (a .timeout) i j) ∙ rw (lt-ltb (a .k) (p .rate) h)
+  can-be h i j = ap (both (ltb (a .k) (p .rate))) (between-yes leastTimeOut mostTimeOut (a .timeout) i j) ∙ rw (lt-ltb (a .k) (p .rate) h)
 
 -- the plan, by the code's test r
 module _ (p : Plan) (r : Bool) (g : T r ↔ InRange p) where
@@ -99,16 +100,16 @@ module _ (l : Lists) (s : Standing) (m x n : ℕ) (l′ : Lists) (c : Counts) (s
 
   -- the answer, and what is left
   pub taken : (at gone : ℕ) → at ≡ place (s .present) x → gone ≡ replacedIn (l .slots) (s .present) x (m + 1)
-      → Takes l s m x n (record { counts = c; distance = x; slot = at % 2250; candidates = n; replaced = gone }) l′
+      → Takes l s m x n (record { counts = c; distance = x; slot = at % frameSlots; candidates = n; replaced = gone }) l′
   unfolding choiceOf
   taken at gone e f = (
-    (λ i. record { counts = counts-is i; distance = x; slot = e i % 2250; candidates = n; replaced = f i }),
+    (λ i. record { counts = counts-is i; distance = x; slot = e i % frameSlots; candidates = n; replaced = f i }),
     (λ i. listsOf (slots-are (l′ .slots) (l′ .tallies) c _ size book-is i) (tallies-are (l′ .slots) (l′ .tallies) c _ size book-is i) (reach-is i)),
   )
 
 -- ---- the window meant, and the draw
 
-module _ (l : Lists) (s : Standing) (p : Plan) (a : Ask) (v : Window) (is : v ≡ windowMeant (s .present) p (a .k) (a .timeout)) where
+module _ (l : Lists) (s : Standing) (p : Plan) (a : Wanted) (v : Window) (is : v ≡ windowMeant (s .present) p (a .k) (a .timeout)) where
   -- the test of the code is that of the definition
   any-is : (b : Bool) → anyOwn (l .slots) v ≡ b → anyOwn (l .slots) (windowMeant (s .present) p (a .k) (a .timeout)) ≡ b
   any-is b e = ap (anyOwn (l .slots)) (sym is) ∙ e
@@ -129,18 +130,18 @@ module _ (l : Lists) (s : Standing) (p : Plan) (a : Ask) (v : Window) (is : v �
       drawn-34 e = (rw (any-is false clear, pick-is SentBack e), refl)
 
       module _ (x n : ℕ) (e : r ≡ At x n) where
-        pub drawn-35 : slotTimes ≤ x + 2250 * a .timeout → Draws l s p a (Refused BeyondBook) l
-        drawn-35 h = (rw (any-is false clear, pick-is (At x n) e, le-ltb (x + 2250 * a .timeout) slotTimes h), refl)
+        pub drawn-35 : slotTimes ≤ x + frameSlots * a .timeout → Draws l s p a (Refused BeyondBook) l
+        drawn-35 h = (rw (any-is false clear, pick-is (At x n) e, le-ltb (x + frameSlots * a .timeout) slotTimes h), refl)
 
-        pub drawn-done : x + 2250 * a .timeout < slotTimes → (c : Choice) (l′ : Lists)
+        pub drawn-done : x + frameSlots * a .timeout < slotTimes → (c : Choice) (l′ : Lists)
             → Takes l s (a .timeout) x n c l′ → Draws l s p a (Done c) l′
         drawn-done h c l′ t = (
-          ap Done (t .0) ∙ sym (rw (any-is false clear, pick-is (At x n) e, lt-ltb (x + 2250 * a .timeout) slotTimes h)),
+          ap Done (t .0) ∙ sym (rw (any-is false clear, pick-is (At x n) e, lt-ltb (x + frameSlots * a .timeout) slotTimes h)),
           t .1 ∙ ap (λ (q : Picked). leftBy (worldAfter l s (a .timeout) (distanceIn q))) (sym (pick-is (At x n) e)),
         )
 
 -- what is drawn in the window meant lies at most 2700 ahead
-pub drawn-near : (l : Lists) (s : Standing) (p : Plan) (a : Ask) (x n : ℕ) → pickedIn l s p a ≡ At x n → x ≤ 2700
+pub drawn-near : (l : Lists) (s : Standing) (p : Plan) (a : Wanted) (x n : ℕ) → pickedIn l s p a ≡ At x n → x ≤ 2700
 drawn-near l s p a x n e =
     let v = windowMeant (s .present) p (a .k) (a .timeout) in
     let h = pick-is-candidate (l .slots) (l .reach) v (a .draw) x n e in
@@ -148,7 +149,7 @@ drawn-near l s p a x n e =
 
 -- ---- the whole call
 
-module _ (l : Lists) (s : Standing) (p : Plan) (a : Ask) where
+module _ (l : Lists) (s : Standing) (p : Plan) (a : Wanted) where
   pub chosen-20 : sized l ≡ false → Chooses l s p a (Refused OtherLength) l
   unfolding chooseAnswer chooseTests
   chosen-20 e = (rw e, refl)

@@ -7,22 +7,23 @@ use Prim.Native.Nat.{ℕ, _≤_}
 use native.Mathlib.Omega.{arith}
 use borrow.Author.Tests.{eq-eqb, ne-eqb}
 use lib.ListN.{getD}
+use Rattle.limits.specs.Limits.{frameSlots, widest}
 use Rattle.plan.specs.declared.Plan.{Plan}
 use Rattle.plan.specs.Plan.{slots}
 use Rattle.plan.proofs.Gaps.{half-most}
 use Rattle.book.specs.Book.{ours, place}
-use Rattle.choice.specs.declared.Window.{Window}
-use Rattle.choice.specs.Slot.{isOwn, holderAt}
+use Rattle.candidates.specs.declared.Window.{Window}
+use Rattle.candidates.specs.Slot.{isOwn, holderAt}
 use Rattle.choosing.specs.Choosing.{windowMeant}
 
 module _ (present : ℕ) (p : Plan) (k m : ℕ) (v : Window) (is : v ≡ windowMeant present p k m) where
   -- it starts at most a frame ahead
-  pub near : v .first ≤ 2250
+  pub near : v .first ≤ frameSlots
   unfolding windowMeant
   near = rw is (omega arith)
 
   -- it has at most 451 slots
-  pub narrow : v .width ≤ 451
+  pub narrow : v .width ≤ widest
   unfolding windowMeant slots
   narrow = rw is (omega (arith, half-most p))
 

@@ -9,7 +9,7 @@ use lib.ListN.{length, getD, set}
 use lib.Seq.{set-out}
 use Rattle.laws.specs.Counting.{one}
 use Rattle.book.specs.Book.{place}
-use Rattle.choice.specs.Slot.{isNone, holderAt}
+use Rattle.candidates.specs.Slot.{isNone, holderAt}
 use Rattle.choosing.specs.Own.{held, heldOff, heldAt}
 
 module _ (o : List ℕ) (h : ℕ) where

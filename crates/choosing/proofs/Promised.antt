@@ -1,27 +1,30 @@
 -- The call that chooses: one answer, each number exactly when, what is chosen, that demand 3 stays, and who is held off.
 -- Assumes nothing.
 use mathlib.Core.Path.{_≡_, refl, sym, ap, subst, _∙_}
-use mathlib.Core.Bool.{true, false, true≢false, not}
+use mathlib.Core.Bool.{true, false, true≢false}
+use mathlib.Core.List.{[], _∷_}
 use Prim.Native.Nat.{_+_, _*_, _≤_, _<_}
 use native.Mathlib.Omega.{arith}
 use borrow.Author.Tests.{lt-ltb}
 use lib.Dec.{ltb}
 use lib.ListN.{getD}
 use Rattle.laws.specs.Tests.{between}
-use Rattle.laws.proofs.Tests.{was-false, was-true, both-right, between-is}
-use Rattle.laws.proofs.Ladder.{AllHold, exactly, passed, all-through}
+use Rattle.laws.proofs.Tests.{was-false, both-right, between-is}
+use Rattle.laws.specs.Exactly.{AllHold}
+use Rattle.laws.proofs.Ladder.{stops-there, all-through, all-answered, by-tests}
 use Rattle.laws.proofs.Unique.{unique}
+use Rattle.limits.specs.Limits.{frameSlots, slotTimes, leastTimeOut, mostTimeOut}
 use Rattle.plan.specs.declared.Plan.{Plan}
 use Rattle.book.specs.declared.Standing.{Standing}
-use Rattle.book.specs.Book.{slotTimes, bookOf, countsOf}
+use Rattle.book.specs.Book.{bookOf, countsOf}
 use Rattle.book.specs.Sound.{Sound}
 use Rattle.book.proofs.Once.{parts-make}
-use Rattle.choice.specs.declared.Picked.{Picked}
-use Rattle.choice.specs.declared.Picked.the-variants.{At, NoCandidate, SentBack}
-use Rattle.choice.specs.Window.{isNo, isBack, distanceIn, numberIn}
+use Rattle.candidates.specs.declared.Picked.{Picked}
+use Rattle.candidates.specs.declared.Picked.the-variants.{At, NoCandidate, SentBack}
+use Rattle.candidates.specs.Window.{isNo, isBack, distanceIn, numberIn}
 use Rattle.book.proofs.Sizes.{third-size}
-use Rattle.choice.proofs.Promised.{pick-is-candidate}
-use Rattle.choosing.specs.declared.Ask.{Ask}
+use Rattle.candidates.proofs.Promised.{pick-is-candidate}
+use Rattle.choosing.specs.declared.Wanted.{Wanted}
 use Rattle.choosing.specs.declared.Choice.{Choice}
 use Rattle.choosing.specs.declared.Chosen.the-variants.{Done}
 use Rattle.choosing.specs.Own.{worldOf}
@@ -39,7 +42,7 @@ use Rattle.choosing.specs.Choosing.{
   chooseLeft,
   Chooses,
 }
-use Rattle.choosing.specs.Promises.{ChooseOnce, ChooseExactly, ChosenIsCandidate, MarksInTheBook, ChooseKeeps, OnlyReplacedHeldOff}
+use Rattle.choosing.specs.Promises.{ChooseOnce, ChooseExactly, NeverBeyond, ChosenIsCandidate, MarksInTheBook, ChooseKeeps, OnlyReplacedHeldOff}
 use Rattle.choosing.proofs.Answers.{drawn-near}
 use Rattle.choosing.proofs.Replacing.{sound-frames, met, not-met}
 
@@ -49,84 +52,48 @@ choose-once l s p a r r′ l₁ l₂ h k = unique (chooseLeft l s p a) h k
 
 -- ---- a draw that picks a slot
 
--- what is sent back is not without candidates
-back-some : (q : Picked) → isBack q ≡ true → isNo q ≡ false
-back-some (At x n) e = refl
-back-some NoCandidate e = sym e
-back-some SentBack e = refl
-
--- neither is a slot
+-- what is neither without candidates nor sent back is a slot
 is-at : (q : Picked) → isNo q ≡ false → isBack q ≡ false → q ≡ At (distanceIn q) (numberIn q)
 is-at (At x n) e f = refl
 is-at NoCandidate e f = absurd (true≢false e)
 is-at SentBack e f = absurd (true≢false f)
 
 -- the time-out that can be asked for
-timeout-most : (p : Plan) (a : Ask) → askFits p a ≡ true → a .timeout ≤ 7
+timeout-most : (p : Plan) (a : Wanted) → askFits p a ≡ true → a .timeout ≤ mostTimeOut
 unfolding askFits
-timeout-most p a e = between-is 3 7 (a .timeout) (both-right (ltb (a .k) (p .rate)) (between 3 7 (a .timeout)) e) .1
+timeout-most p a e = between-is leastTimeOut mostTimeOut (a .timeout) (both-right (ltb (a .k) (p .rate)) (between leastTimeOut mostTimeOut (a .timeout)) e) .1
 
-module _ (l : Lists) (s : Standing) (p : Plan) (a : Ask) (some : isNo (pickedIn l s p a) ≡ false) (kept : isBack (pickedIn l s p a) ≡ false) where
+module _ (l : Lists) (s : Standing) (p : Plan) (a : Wanted) (some : isNo (pickedIn l s p a) ≡ false) (kept : isBack (pickedIn l s p a) ≡ false) where
   -- a slot is picked
   picks : pickedIn l s p a ≡ At (distanceIn (pickedIn l s p a)) (numberIn (pickedIn l s p a))
   picks = is-at (pickedIn l s p a) some kept
 
   -- its marks lie in the book
-  in-book : askFits p a ≡ true → distanceIn (pickedIn l s p a) + 2250 * a .timeout < slotTimes
+  in-book : askFits p a ≡ true → distanceIn (pickedIn l s p a) + frameSlots * a .timeout < slotTimes
   in-book e = omega (arith, timeout-most p a e, drawn-near l s p a _ _ picks)
 
 -- ---- each number exactly when
 
-pub choose-exactly : (l : Lists) (s : Standing) (p : Plan) (a : Ask) → ChooseExactly l s p a
+pub choose-exactly : ChooseExactly
 unfolding chooseAnswer chooseTests
 choose-exactly l s p a =
-    let ts = chooseTests l s p a in
-    let d = Done (choiceIn l s p a) in
-    let h32 = exactly chosenNumber 32 3 ts d tt (λ e. omega arith) in
-    let h33 = exactly chosenNumber 33 4 ts d tt (λ e. omega arith) in
-    let h34 = exactly chosenNumber 34 5 ts d tt (λ e. omega arith) in
-    let h35 = exactly chosenNumber 35 6 ts d tt (λ e. omega arith) in
-    let h0 = passed chosenNumber 0 ts d tt refl in
-    record {
-      given-20 = exactly chosenNumber 20 0 ts d tt (λ e. omega arith);
-      given-31 = exactly chosenNumber 31 1 ts d tt (λ e. omega arith);
-      given-30 = exactly chosenNumber 30 2 ts d tt (λ e. omega arith);
-      given-32 = (
-        (λ e. let q = h32 .0 e in ((q .0, (q .1 .0, q .1 .1 .0)), was-true (q .1 .1 .1))),
-        (λ q. h32 .1 (q .0 .0, (q .0 .1 .0, (q .0 .1 .1, ap not (q .1))))),
-      );
-      given-33 = (
-        (λ e. let q = h33 .0 e in let r = q .1 .1 in ((q .0, (q .1 .0, r .0)), (was-false (r .1 .0), was-true (r .1 .1)))),
-        (λ q. h33 .1 (q .0 .0, (q .0 .1 .0, (q .0 .1 .1, (ap not (q .1 .0), ap not (q .1 .1)))))),
-      );
-      given-34 = (
-        (λ e. let q = h34 .0 e in let r = q .1 .1 in ((q .0, (q .1 .0, r .0)), (was-false (r .1 .0), was-true (r .1 .1 .1)))),
-        (λ q.
-            let some = back-some (pickedIn l s p a) (q .1 .1) in
-            h34 .1 (q .0 .0, (q .0 .1 .0, (q .0 .1 .1, (ap not (q .1 .0), (ap not some, ap not (q .1 .1))))))),
-      );
-      never-35 = λ e.
-          let r = h35 .0 e .1 .1 in
-          let b = in-book l s p a (was-false (r .1 .1 .0)) (was-false (r .1 .1 .1 .0)) (r .0) in
-          true≢false (sym (lt-ltb _ _ b) ∙ r .1 .1 .1 .1);
-      given-0 = (
-        (λ e.
-            let q = h0 .0 e in
-            let r = q .1 .1 in
-            ((q .0, (q .1 .0, r .0)), (was-false (r .1 .0), (was-false (r .1 .1 .0), was-false (r .1 .1 .1 .0))))),
-        (λ q.
-            let b = in-book l s p a (q .1 .1 .0) (q .1 .1 .1) (q .0 .1 .1) in
-            h0 .1 (q .0 .0, (q .0 .1 .0, (q .0 .1 .1, (ap not (q .1 .0), (ap not (q .1 .1 .0), (ap not (q .1 .1 .1), lt-ltb _ _ b))))))),
-      );
-    }
+    by-tests (20 ∷ 31 ∷ 30 ∷ 32 ∷ 33 ∷ 34 ∷ 35 ∷ []) chosenNumber (chooseTests l s p a) (Done (choiceIn l s p a)) refl tt refl
+
+-- the last test always holds
+pub never-beyond : NeverBeyond
+unfolding chooseTests
+never-beyond l s p a e =
+    let last = stops-there _ _ 35 6 (omega arith) tt (choose-exactly l s p a .given 35 (omega arith) .0 e) .1 .1 in
+    let inside = in-book l s p a (was-false (last .1 .1 .0)) (was-false (last .1 .1 .1 .0)) (last .0) in
+    true≢false (sym (lt-ltb _ _ inside) ∙ last .1 .1 .1 .1)
 
 -- ---- what is chosen
 
-module _ (l l′ : Lists) (s : Standing) (p : Plan) (a : Ask) (c : Choice) (h : Chooses l s p a (Done c) l′) where
+module _ (l l′ : Lists) (s : Standing) (p : Plan) (a : Wanted) (c : Choice) (h : Chooses l s p a (Done c) l′) where
   -- every test held
   held : AllHold (chooseTests l s p a)
   unfolding chooseAnswer chooseTests
-  held = passed chosenNumber 0 (chooseTests l s p a) (Done (choiceIn l s p a)) tt refl .0 (ap chosenNumber (sym (h .0)))
+  held = all-answered chosenNumber (chooseTests l s p a) (Done (choiceIn l s p a)) tt (ap chosenNumber (sym (h .0)))
 
   -- so the answer is the one that is given then
   given : c ≡ choiceIn l s p a
@@ -155,7 +122,7 @@ module _ (l l′ : Lists) (s : Standing) (p : Plan) (a : Ask) (c : Choice) (h : 
   picked-is = picks l s p a some-picked not-back ∙ (λ i. At (sym distance-is i) (sym number-is i))
 
   -- its marks lie in the book
-  marks-in : c .distance + 2250 * a .timeout < slotTimes
+  marks-in : c .distance + frameSlots * a .timeout < slotTimes
   unfolding chooseTests
   marks-in = rw distance-is (in-book l s p a some-picked not-back (held .1 .1 .0))
 

@@ -7,9 +7,10 @@ use lib.ListN.{set}
 use Rattle.laws.specs.Counting.{one}
 use Rattle.laws.specs.Loops.{upto}
 use Rattle.laws.specs.Ranges.{howMany}
+use Rattle.limits.specs.Limits.{frameSlots}
 use Rattle.book.specs.declared.Counts.{Counts}
 use Rattle.book.specs.Book.{Book, ours, place, holder, bookOf, putAt}
-use Rattle.choice.specs.Slot.{isNone, holderAt}
+use Rattle.candidates.specs.Slot.{isNone, holderAt}
 
 -- what stands in the list of reaches for a station that is to be held off
 abbrev pub held : ℕ
@@ -34,11 +35,11 @@ ownAt w at = record { book = putAt (w .book) at ours; reach = heldOff (w .reach)
 
 -- n own marks, a frame apart, the first d ahead
 abbrev pub ownFrames : ℕ → ℕ → World → ℕ → World
-ownFrames present d = upto (λ w i. ownAt w (place present (d + 2250 * i)))
+ownFrames present d = upto (λ w i. ownAt w (place present (d + frameSlots * i)))
 
 -- 1 where the time d ahead has a holder, and how many of n times, a frame apart, have one
 unfoldable pub heldAt : List ℕ → ℕ → ℕ → ℕ
 heldAt slots present d = one (not (isNone (holderAt slots present d)))
 
 unfoldable pub replacedIn : List ℕ → ℕ → ℕ → ℕ → ℕ
-replacedIn slots present d n = howMany (λ i. not (isNone (holderAt slots present (d + 2250 * i)))) n
+replacedIn slots present d n = howMany (λ i. not (isNone (holderAt slots present (d + frameSlots * i)))) n

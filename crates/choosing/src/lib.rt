@@ -6,18 +6,18 @@ pub mod window;
 
 ghost use mathlib.Core.Path.{_≡_};
 ghost use Prim.Native.Nat.{_+_, _*_, _<_};
+ghost use Rattle.limits.specs.Limits.{frameSlots, slotTimes, records, mostTimeOut};
 ghost use Rattle.plan.specs.Plan.{InRange};
 ghost use lib.ListN.{length};
-ghost use Rattle.book.specs.Book.{slotTimes, records};
 ghost use Rattle.choosing.specs.Choosing.{listsOf, Takes, Draws, Chooses};
 use book::Counts;
-use book::FRAME;
-use book::RECORDS;
-use book::SLOT_TIMES;
 use book::Standing;
 use book::place;
-use choice::Picked;
-use choice::draw;
+use candidates::Picked;
+use candidates::draw;
+use limits::FRAME;
+use limits::RECORDS;
+use limits::SLOT_TIMES;
 use marks::own_frames;
 use marks::replaced;
 use numbers::Refusal;
@@ -25,8 +25,13 @@ use plan::Plan;
 use window::any_own;
 use window::meant;
 
+// The shortest and the longest time-out, as time-outs are.
+const LEAST_TIME_OUT: u16 = limits::LEAST_TIME_OUT as u16;
+
+const MOST_TIME_OUT: u16 = limits::MOST_TIME_OUT as u16;
+
 // What is asked: the window of k, the time-out, and the number drawn.
-pub struct Ask {
+pub struct Wanted {
     pub k: u16,
     pub timeout: u16,
     pub draw: u16,
@@ -56,7 +61,7 @@ fn take(
     x: usize,
     n: usize,
 ) -> Choice
-    requires { ⌜ (length (now book) ≡ slotTimes) × (length (now tallies) ≡ records) × (length (now reach) ≡ records) × (x + 2250 * m < slotTimes) × (m < 8) ⌝ }
+    requires { ⌜ (length (now book) ≡ slotTimes) × (length (now tallies) ≡ records) × (length (now reach) ≡ records) × (x + frameSlots * m < slotTimes) × (m < mostTimeOut + 1) ⌝ }
     ensures { λ r. ⌜ Takes (listsOf (now (book .entry)) (now (tallies .entry)) (now (reach .entry))) s m x n r (listsOf (now (book .exit)) (now (tallies .exit)) (now (reach .exit))) ⌝ }
 {
     let present = s.present;
@@ -79,9 +84,9 @@ fn choose_in(
     reach: &mut [u32],
     s: Standing,
     p: Plan,
-    a: Ask,
+    a: Wanted,
 ) -> Chosen
-    requires { ⌜ (length (now book) ≡ slotTimes) × (length (now tallies) ≡ records) × (length (now reach) ≡ records) × InRange p × (a .k < p .rate) × (a .timeout < 8) ⌝ }
+    requires { ⌜ (length (now book) ≡ slotTimes) × (length (now tallies) ≡ records) × (length (now reach) ≡ records) × InRange p × (a .k < p .rate) × (a .timeout < mostTimeOut + 1) ⌝ }
     ensures { λ r. ⌜ Draws (listsOf (now (book .entry)) (now (tallies .entry)) (now (reach .entry))) s p a r (listsOf (now (book .exit)) (now (tallies .exit)) (now (reach .exit))) ⌝ }
 {
     let v = meant(s.present, p, a.k, a.timeout);
@@ -110,7 +115,7 @@ pub fn choose(
     reach: &mut [u32],
     s: Standing,
     p: Plan,
-    a: Ask,
+    a: Wanted,
 ) -> Chosen
     ensures { λ r. ⌜ Chooses (listsOf (now (book .entry)) (now (tallies .entry)) (now (reach .entry))) s p a r (listsOf (now (book .exit)) (now (tallies .exit)) (now (reach .exit))) ⌝ }
 {
@@ -129,10 +134,10 @@ pub fn choose(
     if a.k >= p.rate {
         return Chosen::Refused(Refusal::OutOfRange);
     }
-    if a.timeout < 3 {
+    if a.timeout < LEAST_TIME_OUT {
         return Chosen::Refused(Refusal::OutOfRange);
     }
-    if a.timeout > 7 {
+    if a.timeout > MOST_TIME_OUT {
         return Chosen::Refused(Refusal::OutOfRange);
     }
     choose_in(book, tallies, reach, s, p, a)

@@ -2,14 +2,14 @@
 ghost use mathlib.Core.Path.{_≡_};
 ghost use Prim.Native.Nat.{_+_, _*_, _<_};
 ghost use lib.ListN.{length};
-ghost use Rattle.book.specs.Book.{slotTimes, records};
+ghost use Rattle.limits.specs.Limits.{frameSlots, slotTimes, records, mostTimeOut};
 ghost use Rattle.choosing.specs.Own.{heldOff, worldOf, ownAt, ownFrames, heldAt, replacedIn};
 use book::Counts;
-use book::FRAME;
 use book::NONE;
 use book::OWN;
 use book::place;
 use book::put;
+use limits::FRAME;
 
 // The reach of a station whose mark has just been replaced: it is to be held off.
 pub const HELD: u32 = 4294967294;
@@ -48,7 +48,7 @@ pub fn own_frames(
     d: usize,
     m: usize,
 ) -> Counts
-    requires { ⌜ (length (now book) ≡ slotTimes) × ((length (now tallies) ≡ records) × ((length (now reach) ≡ records) × ((d + 2250 * m < slotTimes) × (m < 8)))) ⌝ }
+    requires { ⌜ (length (now book) ≡ slotTimes) × ((length (now tallies) ≡ records) × ((length (now reach) ≡ records) × ((d + frameSlots * m < slotTimes) × (m < mostTimeOut + 1)))) ⌝ }
     ensures { λ r. ⌜ worldOf (now (book .exit)) (now (tallies .exit)) (now (reach .exit)) r ≡ ownFrames present d (worldOf (now (book .entry)) (now (tallies .entry)) (now (reach .entry)) c) (m + 1) ⌝ }
 {
     let mut e = c;
@@ -73,7 +73,7 @@ fn held_bit(book: &[u16], present: usize, d: usize) -> usize
 
 // How many of the times at d ahead and in the m frames after have a holder.
 pub fn replaced(book: &[u16], present: usize, d: usize, m: usize) -> usize
-    requires { ⌜ (length (now book) ≡ slotTimes) × ((d + 2250 * m < slotTimes) × (m < 8)) ⌝ }
+    requires { ⌜ (length (now book) ≡ slotTimes) × ((d + frameSlots * m < slotTimes) × (m < mostTimeOut + 1)) ⌝ }
     ensures { λ r. ⌜ r ≡ replacedIn (now (book .entry)) present d (m + 1) ⌝ }
 {
     let mut n: usize = 0;

@@ -10,10 +10,10 @@ use lib.IntN.{ℤ}
 use lib.Signed.{mag}
 use mir.Syntax.{w32}
 use mir.Val.{toZ, ofZ}
-use Rattle.message.specs.Message.{knownPlace}
+use Rattle.ship.specs.Ship.{knownPlace}
 use Rattle.ship.specs.declared.Ship.{Ship}
 use Rattle.ship.proofs.Places.{read-back}
-use Rattle.distance.specs.declared.Station.{Station}
+use Rattle.distance.specs.declared.Holder.{Holder}
 use Rattle.distance.specs.Distance.{distance, never, mayReuse, reachOf}
 
 -- ---- a struct's positions, read back from their bits; a struct tells of each that it fits
@@ -34,7 +34,7 @@ distance-back lat lon lat′ lon′ p q p′ q′ =
 
 -- ---- each return
 
-module _ (s : Ship) (x : Station) where
+module _ (s : Ship) (x : Holder) where
   -- our own position is not known
   pub we-unknown : knownPlace (s .latitude) (s .longitude) ≡ false → never ≡ reachOf s x
   unfolding reachOf mayReuse

@@ -13,7 +13,7 @@ use mir.Syntax.{w32, w64}
 use mir.Val.{SFits, toZ, ofZ}
 use Rattle.laws.proofs.Tests.{both-left}
 use Rattle.laws.proofs.Signs.{small, abs-32, as-64}
-use Rattle.message.specs.Message.{knownPlace}
+use Rattle.ship.specs.Ship.{knownPlace}
 use Rattle.distance.specs.Distance.{apart, round, distance}
 use Rattle.distance.specs.Promises.{NeverIsNoDistance}
 

@@ -5,9 +5,9 @@ use mathlib.Core.Bool.{Bool, not}
 use lib.IntN.{ℤ, _-ℤ_, natAbs}
 use lib.Dec.{eqb}
 use Rattle.laws.specs.Tests.{pick, both}
-use Rattle.message.specs.Message.{knownPlace}
+use Rattle.ship.specs.Ship.{knownPlace}
 use Rattle.ship.specs.declared.Ship.{Ship}
-use Rattle.distance.specs.declared.Station.{Station}
+use Rattle.distance.specs.declared.Holder.{Holder}
 
 unfoldable pub apart : ℤ → ℤ → ℕ
 apart x y = natAbs (x -ℤ y)
@@ -24,10 +24,10 @@ abbrev pub never : ℕ
 never = 4294967295
 
 -- a station's slots may be reused: own position is known, it is a mobile with known position and hold-off 0
-unfoldable pub mayReuse : Ship → Station → Bool
+unfoldable pub mayReuse : Ship → Holder → Bool
 mayReuse s x =
     both (knownPlace (s .latitude) (s .longitude)) (both (not (x .base)) (both (knownPlace (x .latitude) (x .longitude)) (eqb (x .hold) 0)))
 
 -- its distance from us where they may, else never
-unfoldable pub reachOf : Ship → Station → ℕ
+unfoldable pub reachOf : Ship → Holder → ℕ
 reachOf s x = pick (mayReuse s x) (distance (s .latitude) (s .longitude) (x .latitude) (x .longitude)) never

@@ -4,7 +4,7 @@ use Prim.Native.Nat.{_≤_}
 use mathlib.Core.Path.{_≡_}
 use mathlib.Core.Bool.{true}
 use lib.IntN.{ℤ}
-use Rattle.message.specs.Message.{knownPlace}
+use Rattle.ship.specs.Ship.{knownPlace}
 use Rattle.distance.specs.Distance.{distance}
 
 -- known positions are at most 216,000,000 apart, so a distance is never the number that says never

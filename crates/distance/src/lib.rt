@@ -10,7 +10,7 @@ use ship::known;
 pub const NEVER: u32 = 4294967295;
 
 // What is asked of a station's record.
-pub struct Station {
+pub struct Holder {
     pub base: bool,
     pub latitude: i32,
     pub longitude: i32,
@@ -60,7 +60,7 @@ pub fn distance(latitude: i32, longitude: i32, north: i32, east: i32) -> u64
 }
 
 // The distance of a station whose slots may be reused, else never.
-pub fn reach(ship: Ship, x: Station) -> u32
+pub fn reach(ship: Ship, x: Holder) -> u32
     ensures { λ r. ⌜ r ≡ reachOf ship x ⌝ }
 {
     if !known(ship.latitude, ship.longitude) {

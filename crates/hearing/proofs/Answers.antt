@@ -8,10 +8,11 @@ use borrow.Author.Tests.{eq-eqb, ne-eqb, lt-ltb, le-ltb}
 use lib.Dec.{ltb}
 use lib.ListN.{length}
 use Rattle.laws.specs.Tests.{ladder}
+use Rattle.limits.specs.Limits.{records}
 use Rattle.numbers.specs.declared.Refusal.{Refusal}
 use Rattle.numbers.specs.declared.Refusal.the-variants.{OtherLength, BadSource, Repeated, NoRecord, BeyondBook}
 use Rattle.book.specs.declared.Standing.{Standing}
-use Rattle.book.specs.Book.{records, bookOf}
+use Rattle.book.specs.Book.{bookOf}
 use Rattle.book.proofs.Once.{slots-are, tallies-are, counts-are}
 use Rattle.hearing.specs.declared.Telling.{Telling}
 use Rattle.hearing.specs.declared.Told.{Told}
@@ -19,8 +20,10 @@ use Rattle.hearing.specs.declared.Told.the-variants.{Station, Refused as
 use Rattle.hearing.specs.declared.Hearing.{Hearing}
 use Rattle.hearing.specs.declared.Heard.{Heard}
 use Rattle.hearing.specs.declared.Heard.the-variants.{Done, Refused}
-use Rattle.announcing.specs.Acts.{Act, marked, inBook, heldOf}
-use Rattle.announcing.specs.Announce.{announces}
+use Rattle.announcing.specs.declared.rows.Row.{Row}
+use Rattle.announcing.specs.Rows.{heldOf, inBook}
+use Rattle.announcing.specs.Announce.{announces, mostRows, filled}
+use Rattle.announcing.proofs.Filling.{few-announced, in-book-filled, booked-filled, held-filled}
 use Rattle.hearing.specs.Station.{fairOther}
 use Rattle.hearing.specs.Hear.{Lists, listsOf, sized, recordIn, bookTests, hearTests, bookAfter, hearingOf, hearLeft, Hears, Enters}
 
@@ -34,36 +37,45 @@ module _ (l : Lists) (s : Standing) (x : Telling) (k : ℕ) (is : k ≡ recordIn
   pub no-record : records ≤ k → Booked l s x (Refused NoRecord) l
   no-record h = (rw (le-ltb (recordIn l x) records (rw is at h)), refl)
 
-  module _ (h : k < records) (acts : List Act) (says : acts ≡ announces (x .state)) where
+  -- the rows that the code keeps of what the station announces
+  module _ (h : k < records) (rows : List Row) (says : rows ≡ filled (announces (x .state))) where
+    abbrev few : length (announces (x .state)) ≤ mostRows
+    few = few-announced (x .state)
+
     known : ltb (recordIn l x) records ≡ true
     known = lt-ltb (recordIn l x) records (rw is at h)
 
-    pub beyond : inBook (marked acts) ≡ false → Booked l s x (Refused BeyondBook) l
-    beyond e = (rw (known, ap (λ (y : List Act). inBook (marked y)) (sym says) ∙ e), refl)
+    inside : inBook rows ≡ inBook (announces (x .state))
+    inside = ap inBook says ∙ in-book-filled (announces (x .state)) few
 
-    module _ (r : Hearing) (l′ : Lists) (size : length (l′ .tallies) ≡ records) (enters : Enters l s x k acts r l′) where
-      -- by the record and the acts of the definition
-      entered : Enters l s x (recordIn l x) (announces (x .state)) r l′
-      entered = subst (λ (y : List Act). Enters l s x (recordIn l x) y r l′) says (subst (λ (j : ℕ). Enters l s x j acts r l′) is enters)
+    pub beyond : inBook rows ≡ false → Booked l s x (Refused BeyondBook) l
+    beyond e = (rw (known, sym inside ∙ e), refl)
+
+    module _ (r : Hearing) (l′ : Lists) (size : length (l′ .tallies) ≡ records) (enters : Enters l s x k rows r l′) where
+      -- by the record and the rows of the definition
+      entered : Enters l s x (recordIn l x) (filled (announces (x .state))) r l′
+      entered = subst (λ (y : List Row). Enters l s x (recordIn l x) y r l′) says (subst (λ (j : ℕ). Enters l s x j rows r l′) is enters)
 
       book-is : bookOf (l′ .slots) (l′ .tallies) (r .counts) ≡ bookAfter l s x
       unfolding bookAfter
-      book-is = entered .0
+      book-is = entered .0 ∙ booked-filled (announces (x .state)) few (s .present) (recordIn l x + 1) _
 
       slots-is : l′ .slots ≡ bookAfter l s x .slots
       slots-is = slots-are (l′ .slots) (l′ .tallies) (r .counts) _ size book-is
 
-      marks-is : r .marks ≡ heldOf (s .present) (recordIn l x + 1) (bookAfter l s x .slots) (marked (announces (x .state)))
-      marks-is = entered .4 ∙ ap (λ (y : List ℕ). heldOf (s .present) (recordIn l x + 1) y (marked (announces (x .state)))) slots-is
+      marks-is : r .marks ≡ heldOf (s .present) (recordIn l x + 1) (bookAfter l s x .slots) (announces (x .state))
+      marks-is =
+          entered .4 ∙ held-filled (announces (x .state)) few (s .present) (recordIn l x + 1) (l′ .slots)
+          ∙ ap (λ (y : List ℕ). heldOf (s .present) (recordIn l x + 1) y (announces (x .state))) slots-is
 
       hearing-is : r ≡ hearingOf l s x
       unfolding hearingOf
       hearing-is =
           λ i. record { counts = counts-are (l′ .slots) (l′ .tallies) (r .counts) _ size book-is i; at = entered .2 i; taken = entered .3 i; marks = marks-is i }
 
-      pub booked : inBook (marked acts) ≡ true → Booked l s x (Done r) l′
-      booked e = (
-        ap Done hearing-is ∙ sym (rw (known, ap (λ (y : List Act). inBook (marked y)) (sym says) ∙ e)),
+      pub done : inBook rows ≡ true → Booked l s x (Done r) l′
+      done e = (
+        ap Done hearing-is ∙ sym (rw (known, sym inside ∙ e)),
         (λ i. listsOf (slots-is i) (tallies-are (l′ .slots) (l′ .tallies) (r .counts) _ size book-is i) (entered .1 i)),
       )
 

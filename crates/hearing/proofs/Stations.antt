@@ -1,7 +1,7 @@
 -- The station of a message: what is told of it, its source, and its record: where a number stands first in a list, as a loop seeks it, and
 -- that it is the lowest place.
 -- Assumes nothing.
-use mathlib.Core.Path.{_≡_, sym, _∙_}
+use mathlib.Core.Path.{_≡_, sym, ap, _∙_}
 use mathlib.Core.Bool.{Bool, false}
 use mathlib.Core.List.{List, [], _∷_}
 use Prim.Native.Nat.{ℕ, zero, suc, _+_, _≤_, _<_}
@@ -16,8 +16,7 @@ use lib.IntN.{ℤ}
 use lib.Signed.{mag}
 use lib.ListN.{length, getD, drop}
 use Rattle.laws.proofs.Tests.{both-no, both-yes}
-use Rattle.laws.proofs.Lists.{next}
-use Rattle.laws.proofs.Loops.{Fold, fold-more, fold-end}
+use Rattle.laws.proofs.Lists.{next, done}
 use Rattle.message.specs.declared.state.State.{State}
 use Rattle.ship.specs.Ship.{fairSource}
 use Rattle.hearing.specs.declared.Told.{Told}
@@ -64,43 +63,24 @@ module _ (x y : ℕ) (l : List ℕ) where
   later : (y ≡ x → ⊥) → indexOf x (y ∷ l) ≡ suc (indexOf x l)
   later n = simp (ne-eqb y x n)
 
--- as it is sought: i elements gone through, l left
-unfoldable pub seeking : ℕ → ℕ → List ℕ → ℕ
-seeking x i l = i + indexOf x l
+-- as a loop seeks it: i elements gone through, and what is left still gives the place
+pub record Sought (x : ℕ) (xs : List ℕ) (i : ℕ) : Type 0 where
+  pub left : i + indexOf x (drop i xs) ≡ indexOf x xs
 
--- nothing gone through
-seek-start : (x : ℕ) (xs : List ℕ) → seeking x 0 xs ≡ indexOf x xs
-unfolding seeking
-seek-start x xs = omega arith
+pub sought-none : (x : ℕ) (xs : List ℕ) → Sought x xs 0
+sought-none x xs = record { left = omega arith }
 
--- one more element that is not x
-seek-more : (x i y : ℕ) (l : List ℕ) → (y ≡ x → ⊥) → seeking x i (y ∷ l) ≡ seeking x (i + 1) l
-unfolding seeking
-seek-more x i y l n = omega (arith, later x y l n)
-
--- the next element is x
-seek-here : (x i y : ℕ) (l : List ℕ) → y ≡ x → seeking x i (y ∷ l) ≡ i
-unfolding seeking
-seek-here x i y l e = omega (arith, here x y l e)
-
--- nothing left
-seek-none : (x i : ℕ) → seeking x i [] ≡ i
-unfolding seeking
-seek-none x i = omega arith
-
--- the loop, at the head of a turn
-module _ (x : ℕ) (xs : List ℕ) (i : ℕ) (h : Fold (seeking x) 0 xs i i) where
-  -- it stands at i
+module _ (x : ℕ) (xs : List ℕ) (i : ℕ) (h : Sought x xs i) where
+  -- a turn: it stands at i, or the search goes on
   pub found-at : i < length xs → getD xs i 0 ≡ x → i ≡ indexOf x xs
-  found-at p e = sym (seek-here x i (getD xs i 0) (drop (i + 1) xs) e) ∙ rw (next xs i p) at (h .goes) ∙ seek-start x xs
+  found-at p e = omega (arith, ap (indexOf x) (next xs i p), here x (getD xs i 0) (drop (i + 1) xs) e)
 
-  -- it does not, and the search goes on
-  pub seek-on : i < length xs → (getD xs i 0 ≡ x → ⊥) → Fold (seeking x) 0 xs (i + 1) (i + 1)
-  seek-on p n = fold-more h p (i + 1) (seek-more x i (getD xs i 0) (drop (i + 1) xs) n)
+  pub seek-on : i < length xs → (getD xs i 0 ≡ x → ⊥) → Sought x xs (i + 1)
+  seek-on p n = record { left = omega (arith, ap (indexOf x) (next xs i p), later x (getD xs i 0) (drop (i + 1) xs) n) }
 
-  -- it stands nowhere
+  -- the end: it stands nowhere
   pub found-none : length xs ≤ i → i ≡ indexOf x xs
-  found-none p = sym (seek-none x i) ∙ fold-end h p ∙ seek-start x xs
+  found-none p = omega (arith, ap (indexOf x) (done xs i p))
 
 -- ---- the record
 

@@ -7,6 +7,7 @@ use mathlib.Core.List.{List, [], _∷_}
 use lib.Dec.{eqb, ltb}
 use lib.ListN.{getD, set}
 use Rattle.laws.specs.Tests.{ladder}
+use Rattle.limits.specs.Limits.{records}
 use Rattle.numbers.specs.declared.Refusal.the-variants.{UnknownId, OtherLength, BadSource, Repeated, NoRecord, BeyondBook}
 use Rattle.numbers.specs.Numbers.{numberOf}
 use Rattle.message.specs.declared.Message.{Message}
@@ -19,14 +20,15 @@ use Rattle.message.specs.declared.state.State.{State}
 use Rattle.message.specs.declared.state.State.the-variants.{SelfOrganised as Organised, Incremental as Increasing}
 use Rattle.book.specs.declared.Standing.{Standing}
 use Rattle.book.specs.Sizes.{allSized}
-use Rattle.book.specs.Book.{Book, records, bookOf, countsOf, talliesOf}
+use Rattle.book.specs.Book.{Book, bookOf, countsOf, talliesOf}
 use Rattle.hearing.specs.declared.Telling.{Telling}
 use Rattle.hearing.specs.declared.Told.{Told}
 use Rattle.hearing.specs.declared.Told.the-variants.{Station, Refused as NotTold}
 use Rattle.hearing.specs.declared.Hearing.{Hearing}
 use Rattle.hearing.specs.declared.Heard.{Heard}
 use Rattle.hearing.specs.declared.Heard.the-variants.{Done, Refused}
-use Rattle.announcing.specs.Acts.{Act, acted, marked, inBook, heldOf}
+use Rattle.announcing.specs.declared.rows.Row.{Row}
+use Rattle.announcing.specs.Rows.{booked, heldOf, inBook}
 use Rattle.announcing.specs.Announce.{announces}
 use Rattle.hearing.specs.Station.{fairOther, recordOf}
 
@@ -77,7 +79,7 @@ recordIn l x = recordOf (l .sources) (l .tallies) (x .source)
 abbrev pub bookTests : Lists → Telling → List (Bool × Heard)
 bookTests l x =
     (ltb (recordIn l x) records, Refused NoRecord)
-    ∷ (inBook (marked (announces (x .state))), Refused BeyondBook)
+    ∷ (inBook (announces (x .state)), Refused BeyondBook)
     ∷ []
 
 unfoldable pub hearTests : Lists → ℕ → Telling → List (Bool × Heard)
@@ -89,7 +91,7 @@ hearTests l own x =
 
 -- the book with what the station announces
 unfoldable pub bookAfter : Lists → Standing → Telling → Book
-bookAfter l s x = acted (s .present) (recordIn l x + 1) (bookOf (l .slots) (l .tallies) (s .counts)) (announces (x .state))
+bookAfter l s x = booked (s .present) (recordIn l x + 1) (announces (x .state)) (bookOf (l .slots) (l .tallies) (s .counts))
 
 unfoldable pub hearingOf : Lists → Standing → Telling → Hearing
 hearingOf l s x =
@@ -97,7 +99,7 @@ hearingOf l s x =
       counts = countsOf (bookAfter l s x);
       at = recordIn l x;
       taken = not (eqb (getD (l .sources) (recordIn l x) 0) (x .source));
-      marks = heldOf (s .present) (recordIn l x + 1) (bookAfter l s x .slots) (marked (announces (x .state)));
+      marks = heldOf (s .present) (recordIn l x + 1) (bookAfter l s x .slots) (announces (x .state));
     }
 
 abbrev pub hearAnswer : Lists → Standing → ℕ → Told → Heard
@@ -118,10 +120,10 @@ Hears l s own t r l′ = (r ≡ hearAnswer l s own t) × (l′ ≡ hearLeft l s 
 
 -- ---- what the code has done once the record k has the station and the book what it announces
 
-abbrev pub Enters : Lists → Standing → Telling → ℕ → List Act → Hearing → Lists → Type 0
-Enters l s x k acts r l′ =
-    (bookOf (l′ .slots) (l′ .tallies) (r .counts) ≡ acted (s .present) (k + 1) (bookOf (l .slots) (l .tallies) (s .counts)) acts)
+abbrev pub Enters : Lists → Standing → Telling → ℕ → List Row → Hearing → Lists → Type 0
+Enters l s x k rows r l′ =
+    (bookOf (l′ .slots) (l′ .tallies) (r .counts) ≡ booked (s .present) (k + 1) rows (bookOf (l .slots) (l .tallies) (s .counts)))
     × (l′ .sources ≡ set (l .sources) k (x .source))
     × (r .at ≡ k)
     × (r .taken ≡ not (eqb (getD (l .sources) k 0) (x .source)))
-    × (r .marks ≡ heldOf (s .present) (k + 1) (l′ .slots) (marked acts))
+    × (r .marks ≡ heldOf (s .present) (k + 1) (l′ .slots) rows)

@@ -2,15 +2,16 @@
 -- Assumes nothing.
 use Prim.Native.Nat.{ℕ, _<_}
 use mathlib.Core.Path.{_≡_}
-use mathlib.Core.Bool.{true, false}
+use mathlib.Core.Bool.{true}
 use mathlib.Core.Logic.{_↔_, _⊎_}
-use mathlib.Core.List.{List}
-use lib.Dec.{eqb, ltb}
+use mathlib.Core.List.{List, [], _∷_}
 use lib.ListN.{length, getD}
-use Rattle.laws.specs.Tests.{between}
-use Rattle.message.specs.Message.{idIn, readAnswer}
+use Rattle.laws.specs.Counting.{has}
+use Rattle.laws.specs.Exactly.{Stops, Exactly}
+use Rattle.limits.specs.Limits.{records}
+use Rattle.message.specs.Message.{readTests, readAnswer}
 use Rattle.book.specs.declared.Standing.{Standing}
-use Rattle.book.specs.Book.{records, bookOf}
+use Rattle.book.specs.Book.{bookOf}
 use Rattle.book.specs.Sound.{Sound}
 use Rattle.hearing.specs.declared.Telling.{Telling}
 use Rattle.hearing.specs.declared.Told.{Told}
@@ -18,10 +19,8 @@ use Rattle.hearing.specs.declared.Told.the-variants.{Station}
 use Rattle.hearing.specs.declared.Hearing.{Hearing}
 use Rattle.hearing.specs.declared.Heard.{Heard}
 use Rattle.hearing.specs.declared.Heard.the-variants.{Done}
-use Rattle.announcing.specs.Acts.{marked, inBook}
-use Rattle.announcing.specs.Announce.{announces}
-use Rattle.hearing.specs.Station.{fairOther, recordOf}
-use Rattle.hearing.specs.Hear.{heardNumber, toldOf, Lists, sized, recordIn, hearAnswer, Hears}
+use Rattle.hearing.specs.Station.{recordOf}
+use Rattle.hearing.specs.Hear.{heardNumber, toldOf, Lists, hearTests, hearAnswer, Hears}
 
 -- no second answer, and no second content, meets the contract
 abbrev pub HearOnce : Type 0
@@ -29,27 +28,19 @@ HearOnce =
     (l : Lists) (s : Standing) (own : ℕ) (t : Told) (r r′ : Heard) (l₁ l₂ : Lists)
     → Hears l s own t r l₁ → Hears l s own t r′ l₂ → (r ≡ r′) × (l₁ ≡ l₂)
 
--- ---- each number is given exactly when; 0 is none
+-- ---- each number is given exactly when
 
 -- of message bytes: before anything else is asked
-pub record BytesExactly (bytes : List ℕ) (l : Lists) (s : Standing) (own : ℕ) : Type 0 where
-  pub given-17 : (heardNumber (hearAnswer l s own (toldOf (readAnswer bytes))) ≡ 17) ↔ (eqb (length bytes) 21 ≡ false)
-  pub given-18 : (heardNumber (hearAnswer l s own (toldOf (readAnswer bytes))) ≡ 18)
-      ↔ ((eqb (length bytes) 21 ≡ true) × (between 1 4 (idIn bytes) ≡ false))
+abbrev pub BytesExactly : Type 0
+BytesExactly =
+    (bytes : List ℕ) (l : Lists) (s : Standing) (own n : ℕ) → has n (17 ∷ 18 ∷ []) ≡ true
+    → (heardNumber (hearAnswer l s own (toldOf (readAnswer bytes))) ≡ n) ↔ Stops (17 ∷ 18 ∷ []) (readTests bytes) n
 
 -- of what a message tells
-pub record HearExactly (l : Lists) (s : Standing) (own : ℕ) (x : Telling) : Type 0 where
-  pub given-20 : (heardNumber (hearAnswer l s own (Station x)) ≡ 20) ↔ (sized l ≡ false)
-  pub given-21 : (heardNumber (hearAnswer l s own (Station x)) ≡ 21)
-      ↔ ((sized l ≡ true) × (fairOther (x .source) own ≡ false))
-  pub given-22 : (heardNumber (hearAnswer l s own (Station x)) ≡ 22)
-      ↔ ((sized l ≡ true) × ((fairOther (x .source) own ≡ true) × (eqb (x .repeat) 0 ≡ false)))
-  pub given-23 : (heardNumber (hearAnswer l s own (Station x)) ≡ 23)
-      ↔ ((sized l ≡ true) × ((fairOther (x .source) own ≡ true) × ((eqb (x .repeat) 0 ≡ true) × (ltb (recordIn l x) records ≡ false))))
-  pub given-35 : (heardNumber (hearAnswer l s own (Station x)) ≡ 35)
-      ↔ ((sized l ≡ true) × ((fairOther (x .source) own ≡ true) × ((eqb (x .repeat) 0 ≡ true) × ((ltb (recordIn l x) records ≡ true) × (inBook (marked (announces (x .state))) ≡ false)))))
-  pub given-0 : (heardNumber (hearAnswer l s own (Station x)) ≡ 0)
-      ↔ ((sized l ≡ true) × ((fairOther (x .source) own ≡ true) × ((eqb (x .repeat) 0 ≡ true) × ((ltb (recordIn l x) records ≡ true) × (inBook (marked (announces (x .state))) ≡ true)))))
+abbrev pub HearExactly : Type 0
+HearExactly =
+    (l : Lists) (s : Standing) (own : ℕ) (x : Telling)
+    → Exactly (20 ∷ 21 ∷ 22 ∷ 23 ∷ 35 ∷ []) heardNumber (hearTests l own x) (hearAnswer l s own (Station x))
 
 -- ---- the record
 

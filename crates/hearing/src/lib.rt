@@ -4,23 +4,24 @@
 pub mod station;
 
 ghost use mathlib.Core.Path.{_≡_};
-ghost use Prim.Native.Nat.{_-_, _≤_, _<_};
+ghost use mathlib.Core.Bool.{true};
+ghost use Prim.Native.Nat.{_<_};
 ghost use lib.ListN.{length};
-ghost use Rattle.book.specs.Book.{slotTimes, records};
 ghost use Rattle.laws.specs.Tests.{ladder};
-ghost use Rattle.announcing.specs.Announce.{actsOf};
+ghost use Rattle.limits.specs.Limits.{slotTimes, records};
+ghost use Rattle.announcing.specs.Rows.{inBook};
 ghost use Rattle.hearing.specs.declared.Told.the-variants.{Station};
 ghost use Rattle.hearing.specs.declared.Heard.the-variants.{Done};
 ghost use Rattle.hearing.specs.Hear.{tellingOf, toldOf, listsOf, bookTests, hearingOf, hearLeft, Enters, Hears};
-use announcing::announcement::Announcement;
-use announcing::announcement::announced;
-use announcing::announcement::within;
 use announcing::marks::book_times;
-use announcing::marks::held_times;
+use announcing::rows::ROWS;
+use announcing::rows::Row;
+use announcing::rows::announced;
+use announcing::rows::within;
 use book::Counts;
-use book::RECORDS;
-use book::SLOT_TIMES;
 use book::Standing;
+use limits::RECORDS;
+use limits::SLOT_TIMES;
 use message::Message;
 use message::Received;
 use message::state::State;
@@ -115,22 +116,22 @@ fn enter(
     s: Standing,
     x: Telling,
     k: usize,
-    a: Announcement,
+    rows: [Row; ROWS],
 ) -> Hearing
-    requires { ⌜ (length (now book) ≡ slotTimes) × (length (now tallies) ≡ records) × (length (now sources) ≡ records) × (k < records) × (a .slots ≤ slotTimes - a .from) ⌝ }
-    ensures { λ r. ⌜ Enters (listsOf (now (book .entry)) (now (tallies .entry)) (now (sources .entry))) s x k (actsOf a) r (listsOf (now (book .exit)) (now (tallies .exit)) (now (sources .exit))) ⌝ }
+    requires { ⌜ (length (now book) ≡ slotTimes) × (length (now tallies) ≡ records) × (length (now sources) ≡ records) × (k < records) × (inBook rows ≡ true) ⌝ }
+    ensures { λ r. ⌜ Enters (listsOf (now (book .entry)) (now (tallies .entry)) (now (sources .entry))) s x k rows r (listsOf (now (book .exit)) (now (tallies .exit)) (now (sources .exit))) ⌝ }
 {
     let source = x.source;
     let taken = sources[k] != source;
     sources[k] = source;
     let h = (k + 1) as u16;
-    let counts = book_times(book, tallies, s.counts, s.present, h, a);
-    let marks = held_times(book, s.present, h, a);
+    let b = book_times(book, tallies, s.counts, s.present, h, rows);
+    let counts = b.counts;
     Hearing {
         counts,
         at: k,
         taken,
-        marks,
+        marks: b.marks,
     }
 }
 
@@ -150,11 +151,11 @@ fn hear_station(
         return Heard::Refused(Refusal::NoRecord);
     }
     let state = x.state;
-    let a = announced(state);
-    if !within(a) {
+    let rows = announced(state);
+    if !within(rows) {
         return Heard::Refused(Refusal::BeyondBook);
     }
-    Heard::Done(enter(book, tallies, sources, s, x, k, a))
+    Heard::Done(enter(book, tallies, sources, s, x, k, rows))
 }
 
 // Hears a message in the present slot: 17, 18, 20, 21, 22, 23, 35. Our own source is `ship`.

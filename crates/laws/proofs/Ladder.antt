@@ -1,80 +1,103 @@
--- "Given exactly when", for tests in an order whose answers have numbers: the number of one test is given exactly when those before it
--- hold and it does not; the number of none of them, exactly when all hold. That no two of them share a number is computed.
+-- "Given exactly when" (specs/Exactly.antt) holds of every ladder whose tests have numbers above 0.
 -- Assumes nothing.
-use mathlib.Core.Path.{_≡_, refl, sym, _∙_}
+use mathlib.Core.Path.{_≡_, refl, sym, ap, _∙_}
 use mathlib.Core.Bool.{Bool, true, false, not, true≢false}
 use mathlib.Core.Logic.{_↔_}
-use mathlib.Core.List.{List, [], _∷_}
-use Prim.Native.Nat.{ℕ, zero, suc}
-use borrow.Author.Tests.{eq-eqb, eqb-true}
-use lib.Dec.{T, eqb}
+use mathlib.Core.List.{List, [], _∷_, map}
+use Prim.Native.Nat.{ℕ, zero, suc, _<_}
+use native.Mathlib.Omega.{arith}
+use lib.Dec.{T, eqb, ltb}
+use lib.ListN.{getD}
+use borrow.Author.Tests.{eq-eqb, ltb-true}
 use Rattle.laws.specs.Tests.{both, ladder}
+use Rattle.laws.specs.Exactly.{AllHold, StopsAt, Stops, Exactly}
 use Rattle.laws.proofs.Tests.{is-true, both-left, both-right, was-false}
 
--- every test holds
-abbrev pub AllHold : {X : Type 0} → List (Bool × X) → Type 0
-AllHold [] = Unit {0}
-AllHold (t ∷ []) = t .0 ≡ true
-AllHold (t ∷ u ∷ ts) = (t .0 ≡ true) × AllHold (u ∷ ts)
+-- every number is above 0
+abbrev pub above : List ℕ → Bool
+above [] = true
+above (n ∷ ns) = both (ltb 0 n) (above ns)
 
--- test i does not hold, and those before it do
-abbrev pub StopsAt : {X : Type 0} → ℕ → List (Bool × X) → Type 0
-StopsAt i [] = ⊥
-StopsAt zero (t ∷ ts) = t .0 ≡ false
-StopsAt (suc i) (t ∷ ts) = (t .0 ≡ true) × StopsAt i ts
+module _ {X : Type 0} (f : X → ℕ) where
+  abbrev numbersOf : List (Bool × X) → List ℕ
+  numbersOf = map (λ (t : Bool × X). f (t .1))
 
-module _ {X : Type 0} (f : X → ℕ) (n : ℕ) where
-  -- no test gives the number
-  abbrev pub noneGives : List (Bool × X) → Bool
-  noneGives [] = true
-  noneGives (t ∷ ts) = both (not (eqb (f (t .1)) n)) (noneGives ts)
+  -- a test that holds is passed by
+  later : {n : ℕ} {y : X} {ts : List (Bool × X)} → Stops (numbersOf ts) ts n → Stops (numbersOf ((true, y) ∷ ts)) ((true, y) ∷ ts) n
+  later s = record { test = suc (s .test); number = s .number; stops = (refl, s .stops) }
 
-  -- test i gives it, and no other
-  abbrev pub onlyGives : ℕ → List (Bool × X) → Bool
-  onlyGives i [] = false
-  onlyGives zero (t ∷ ts) = both (eqb (f (t .1)) n) (noneGives ts)
-  onlyGives (suc i) (t ∷ ts) = both (not (eqb (f (t .1)) n)) (onlyGives i ts)
+  stopped : (ts : List (Bool × X)) (x : X) (n : ℕ) → (f x ≡ n → ⊥) → f (ladder ts x) ≡ n → Stops (numbersOf ts) ts n
+  stopped [] x n z e = absurd (z e)
+  stopped ((true, y) ∷ ts) x n z e = later (stopped ts x n z e)
+  stopped ((false, y) ∷ ts) x n z e = record { test = 0; number = e; stops = refl }
 
-  differs : (y : X) → not (eqb (f y) n) ≡ true → f y ≡ n → ⊥
-  differs y e z = true≢false (sym (eq-eqb (f y) n z) ∙ was-false e)
+  stopping : (ts : List (Bool × X)) (x : X) (i : ℕ) → StopsAt i ts → f (ladder ts x) ≡ getD (numbersOf ts) i 0
+  stopping [] x i s = absurd s
+  stopping ((b, y) ∷ ts) x zero s = rw s
+  stopping ((b, y) ∷ ts) x (suc i) s = rw (s .0) (stopping ts x i (s .1))
 
-  never : (ts : List (Bool × X)) (x : X) → noneGives ts ≡ true → (f x ≡ n → ⊥) → f (ladder ts x) ≡ n → ⊥
-  never [] x o h e = h e
-  never ((true, y) ∷ ts) x o h e = never ts x (both-right (not (eqb (f y) n)) (noneGives ts) o) h e
-  never ((false, y) ∷ ts) x o h e = differs y (both-left (not (eqb (f y) n)) (noneGives ts) o) e
-
-  stops : (i : ℕ) (ts : List (Bool × X)) (x : X) → onlyGives i ts ≡ true → (f x ≡ n → ⊥) → f (ladder ts x) ≡ n → StopsAt i ts
-  stops i [] x o h e = h e
-  stops zero ((true, y) ∷ ts) x o h e = absurd (never ts x (both-right (eqb (f y) n) (noneGives ts) o) h e)
-  stops zero ((false, y) ∷ ts) x o h e = refl
-  stops (suc i) ((true, y) ∷ ts) x o h e = (refl, stops i ts x (both-right (not (eqb (f y) n)) (onlyGives i ts) o) h e)
-  stops (suc i) ((false, y) ∷ ts) x o h e = absurd (differs y (both-left (not (eqb (f y) n)) (onlyGives i ts) o) e)
-
-  given : (i : ℕ) (ts : List (Bool × X)) (x : X) → onlyGives i ts ≡ true → StopsAt i ts → f (ladder ts x) ≡ n
-  given i [] x o s = absurd s
-  given zero ((b, y) ∷ ts) x o s = rw s (eqb-true (f y) n (both-left (eqb (f y) n) (noneGives ts) o))
-  given (suc i) ((b, y) ∷ ts) x o s = rw (s .0) (given i ts x (both-right (not (eqb (f y) n)) (onlyGives i ts) o) (s .1))
-
-  pub exactly : (i : ℕ) (ts : List (Bool × X)) (x : X) → T (onlyGives i ts) → (f x ≡ n → ⊥) → (f (ladder ts x) ≡ n) ↔ StopsAt i ts
-  exactly i ts x o h = (stops i ts x (is-true o) h, given i ts x (is-true o))
-
-  all-held : (ts : List (Bool × X)) (x : X) → noneGives ts ≡ true → f (ladder ts x) ≡ n → AllHold ts
-  all-held [] x o e = tt
-  all-held ((true, y) ∷ []) x o e = refl
-  all-held ((true, y) ∷ u ∷ ts) x o e = (refl, all-held (u ∷ ts) x (both-right (not (eqb (f y) n)) (noneGives (u ∷ ts)) o) e)
-  all-held ((false, y) ∷ []) x o e = absurd (differs y (both-left (not (eqb (f y) n)) true o) e)
-  all-held ((false, y) ∷ u ∷ ts) x o e = absurd (differs y (both-left (not (eqb (f y) n)) (noneGives (u ∷ ts)) o) e)
-
-  held-all : (ts : List (Bool × X)) (x : X) → f x ≡ n → AllHold ts → f (ladder ts x) ≡ n
-  held-all [] x e a = e
-  held-all ((b, y) ∷ []) x e a = rw a e
-  held-all ((b, y) ∷ u ∷ ts) x e a = rw (a .0) (held-all (u ∷ ts) x e (a .1))
-
-  pub passed : (ts : List (Bool × X)) (x : X) → T (noneGives ts) → f x ≡ n → (f (ladder ts x) ≡ n) ↔ AllHold ts
-  passed ts x o e = (all-held ts x (is-true o), held-all ts x e)
+  all-held : (ts : List (Bool × X)) (x : X) → above (numbersOf ts) ≡ true → f (ladder ts x) ≡ 0 → AllHold ts
+  all-held [] x a e = tt
+  all-held ((true, y) ∷ []) x a e = refl
+  all-held ((true, y) ∷ u ∷ ts) x a e = (refl, all-held (u ∷ ts) x (both-right (ltb 0 (f y)) (above (numbersOf (u ∷ ts))) a) e)
+  all-held ((false, y) ∷ []) x a e = absurd (omega (arith, ltb-true 0 (f y) (both-left (ltb 0 (f y)) true a), e))
+  all-held ((false, y) ∷ u ∷ ts) x a e =
+      absurd (omega (arith, ltb-true 0 (f y) (both-left (ltb 0 (f y)) (above (numbersOf (u ∷ ts))) a), e))
 
 -- where every test holds, none of their answers is given
 pub all-through : {X : Type 0} (ts : List (Bool × X)) (x : X) → AllHold ts → ladder ts x ≡ x
 all-through [] x a = refl
 all-through ((b, y) ∷ []) x a = rw a
 all-through ((b, y) ∷ u ∷ ts) x a = rw (a .0) (all-through (u ∷ ts) x (a .1))
+
+-- a number that is not the one of what comes after the tests
+pub given-by :
+    {X : Type 0} (numbers : List ℕ) (f : X → ℕ) (ts : List (Bool × X)) (x : X) → map (λ (t : Bool × X). f (t .1)) ts ≡ numbers
+    → (n : ℕ) → (f x ≡ n → ⊥) → (f (ladder ts x) ≡ n) ↔ Stops numbers ts n
+given-by {X = X} numbers f ts x order n z =
+    let at : (i : ℕ) → getD (map (λ (t : Bool × X). f (t .1)) ts) i 0 ≡ getD numbers i 0 = λ i. ap (λ (l : List ℕ). getD l i 0) order in (
+      (λ e. let s = stopped f ts x n z e in record { test = s .test; number = sym (at (s .test)) ∙ s .number; stops = s .stops }),
+      (λ s. stopping f ts x (s .test) (s .stops) ∙ at (s .test) ∙ s .number),
+    )
+
+-- where one test only has the number, it is the one that stops; that it is the only one is computed
+abbrev others : ℕ → List ℕ → Bool
+others n [] = true
+others n (m ∷ ns) = both (not (eqb m n)) (others n ns)
+
+abbrev pub onlyAt : ℕ → ℕ → List ℕ → Bool
+onlyAt n i [] = false
+onlyAt n zero (m ∷ ns) = others n ns
+onlyAt n (suc i) (m ∷ ns) = both (not (eqb m n)) (onlyAt n i ns)
+
+not-there : (n i : ℕ) (ns : List ℕ) → 0 < n → others n ns ≡ true → getD ns i 0 ≡ n → ⊥
+not-there n i [] p o e = omega (arith, p, e)
+not-there n zero (m ∷ ns) p o e = true≢false (sym (eq-eqb m n e) ∙ was-false (both-left (not (eqb m n)) (others n ns) o))
+not-there n (suc i) (m ∷ ns) p o e = not-there n i ns p (both-right (not (eqb m n)) (others n ns) o) e
+
+one-place : (n i j : ℕ) (ns : List ℕ) → 0 < n → onlyAt n i ns ≡ true → getD ns j 0 ≡ n → j ≡ i
+one-place n i j [] p o e = absurd (omega (arith, p, e))
+one-place n zero zero (m ∷ ns) p o e = refl
+one-place n zero (suc j) (m ∷ ns) p o e = absurd (not-there n j ns p o e)
+one-place n (suc i) zero (m ∷ ns) p o e = absurd (true≢false (sym (eq-eqb m n e) ∙ was-false (both-left (not (eqb m n)) (onlyAt n i ns) o)))
+one-place n (suc i) (suc j) (m ∷ ns) p o e = ap suc (one-place n i j ns p (both-right (not (eqb m n)) (onlyAt n i ns) o) e)
+
+pub stops-there :
+    {X : Type 0} (numbers : List ℕ) (ts : List (Bool × X)) (n i : ℕ) → 0 < n → T (onlyAt n i numbers) → Stops numbers ts n → StopsAt i ts
+stops-there numbers ts n i p o s = rw (one-place n i (s .test) numbers p (is-true o) (s .number)) at (s .stops)
+
+-- where the answer has the number 0, for none, every test held
+pub all-answered :
+    {X : Type 0} (f : X → ℕ) (ts : List (Bool × X)) (x : X) → T (above (map (λ (t : Bool × X). f (t .1)) ts)) → f (ladder ts x) ≡ 0 → AllHold ts
+all-answered f ts x a = all-held f ts x (is-true a)
+
+-- every number, by the list of tests; that each is above 0 is computed
+pub by-tests :
+    {X : Type 0} (numbers : List ℕ) (f : X → ℕ) (ts : List (Bool × X)) (x : X) → map (λ (t : Bool × X). f (t .1)) ts ≡ numbers → T (above numbers)
+    → f x ≡ 0 → Exactly numbers f ts (ladder ts x)
+by-tests numbers f ts x order positive z =
+    record {
+      order = order;
+      given = λ n p. given-by numbers f ts x order n (λ e. omega (arith, z, e));
+      none = (all-held f ts x (ap above order ∙ is-true positive), λ a. ap f (all-through ts x a) ∙ z);
+    }

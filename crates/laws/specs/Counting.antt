@@ -28,8 +28,3 @@ sum (x ∷ l) = x + sum l
 abbrev pub has : ℕ → List ℕ → Bool
 has x [] = false
 has x (y ∷ l) = pick (eqb x y) true (has x l)
-
--- how many different numbers of a list pass the test: each is counted where it stands last
-abbrev pub different : (ℕ → Bool) → List ℕ → ℕ
-different q [] = 0
-different q (x ∷ l) = pick (has x l) 0 (one (q x)) + different q l

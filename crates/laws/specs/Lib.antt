@@ -4,3 +4,4 @@ pub mod Tables
 pub mod Loops
 pub mod Counting
 pub mod Ranges
+pub mod Exactly

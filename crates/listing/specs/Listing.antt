@@ -1,6 +1,6 @@
 -- A message as a list of numbers: its fields in the order of document 01, then the state taken apart.
 -- Assumes nothing.
-use Prim.Native.Nat.{ℕ, _+_, _-_, _/_, _%_}
+use Prim.Native.Nat.{ℕ, _+_, _-_, _/_, _%_, _<_}
 use mathlib.Core.Path.{_≡_}
 use mathlib.Core.List.{List, [], _∷_, _++_}
 use lib.IntN.{ℤ, pos, negsuc}
@@ -53,6 +53,20 @@ numbersOf (Two r s) = reportNumbers 2 r ++ organisedNumbers s
 numbersOf (Three r s) = reportNumbers 3 r ++ incrementalNumbers s
 numbersOf (Four b s) = baseNumbers b ++ organisedNumbers s
 numbersOf Other = []
+
+-- two numbers that are the same with a sign
+abbrev pub Small : ℕ → ℕ → Type 0
+Small a b = (a < 2147483648) × (b < 2147483648)
+
+abbrev pub SmallReport : ℕ → Report → Type 0
+SmallReport id r =
+    Small id (r .repeat) × Small (r .source) (r .status) × Small (r .speed) (r .accuracy) × Small (r .course) (r .heading)
+    × Small (r .second) (r .manoeuvre) × Small (r .spare) (r .raim)
+
+abbrev pub SmallBase : Base → Type 0
+SmallBase b =
+    Small 4 (b .repeat) × Small (b .source) (b .year) × Small (b .month) (b .day) × Small (b .hour) (b .minute)
+    × Small (b .second) (b .accuracy) × Small (b .fix) (b .control) × Small (b .spare) (b .raim)
 
 -- a lent list after the numbers of a message have been put there, and how many they are
 abbrev pub Lists : Message → List ℤ → ℕ → List ℤ → Type 0

@@ -2,7 +2,9 @@
 ghost use mathlib.Core.Path.{_≡_};
 ghost use Prim.Native.Nat.{_+_, _≤_, _<_};
 ghost use lib.ListN.{length};
+ghost use Rattle.limits.specs.Limits.{listPlaces};
 ghost use Rattle.listing.specs.Listing.{plainOf, plainAt, reportIn, baseIn, pairsOf, subSaid, organisedIn, incrementalIn};
+use bits::reader::Four;
 use message::Base;
 use message::Report;
 use message::state::Clock;
@@ -28,17 +30,33 @@ pub fn plain_at(list: &[i32], i: usize) -> u32
     plain(list[i])
 }
 
+// Four numbers from place i on.
+fn plain_four(list: &[i32], i: usize) -> Four
+    requires { ⌜ i + 4 ≤ length (now list) ⌝ }
+    ensures { λ r. ⌜ (r .a ≡ plainAt (now (list .entry)) i) × (r .b ≡ plainAt (now (list .entry)) (i + 1)) × (r .c ≡ plainAt (now (list .entry)) (i + 2)) × (r .d ≡ plainAt (now (list .entry)) (i + 3)) ⌝ }
+{
+    Four {
+        a: plain_at(list, i),
+        b: plain_at(list, i + 1),
+        c: plain_at(list, i + 2),
+        d: plain_at(list, i + 3),
+    }
+}
+
 pub fn report_in(list: &[i32]) -> Report
-    requires { ⌜ 21 ≤ length (now list) ⌝ }
+    requires { ⌜ listPlaces ≤ length (now list) ⌝ }
     ensures { λ r. ⌜ r ≡ reportIn (now (list .entry)) ⌝ }
 {
     let turn = list[4];
     let longitude = list[7];
     let latitude = list[8];
+    // the fourth of the first ones is the turn
+    let f = plain_four(list, 1);
+    let g = plain_four(list, 11);
     Report {
-        repeat: plain_at(list, 1),
-        source: plain_at(list, 2),
-        status: plain_at(list, 3),
+        repeat: f.a,
+        source: f.b,
+        status: f.c,
         turn,
         speed: plain_at(list, 5),
         accuracy: plain_at(list, 6),
@@ -46,35 +64,38 @@ pub fn report_in(list: &[i32]) -> Report
         latitude,
         course: plain_at(list, 9),
         heading: plain_at(list, 10),
-        second: plain_at(list, 11),
-        manoeuvre: plain_at(list, 12),
-        spare: plain_at(list, 13),
-        raim: plain_at(list, 14),
+        second: g.a,
+        manoeuvre: g.b,
+        spare: g.c,
+        raim: g.d,
     }
 }
 
 pub fn base_in(list: &[i32]) -> Base
-    requires { ⌜ 21 ≤ length (now list) ⌝ }
+    requires { ⌜ listPlaces ≤ length (now list) ⌝ }
     ensures { λ r. ⌜ r ≡ baseIn (now (list .entry)) ⌝ }
 {
     let longitude = list[10];
     let latitude = list[11];
+    let f = plain_four(list, 1);
+    let g = plain_four(list, 5);
+    let h = plain_four(list, 12);
     Base {
-        repeat: plain_at(list, 1),
-        source: plain_at(list, 2),
-        year: plain_at(list, 3),
-        month: plain_at(list, 4),
-        day: plain_at(list, 5),
-        hour: plain_at(list, 6),
-        minute: plain_at(list, 7),
-        second: plain_at(list, 8),
+        repeat: f.a,
+        source: f.b,
+        year: f.c,
+        month: f.d,
+        day: g.a,
+        hour: g.b,
+        minute: g.c,
+        second: g.d,
         accuracy: plain_at(list, 9),
         longitude,
         latitude,
-        fix: plain_at(list, 12),
-        control: plain_at(list, 13),
-        spare: plain_at(list, 14),
-        raim: plain_at(list, 15),
+        fix: h.a,
+        control: h.b,
+        spare: h.c,
+        raim: h.d,
     }
 }
 
@@ -128,13 +149,14 @@ pub fn organised_in(list: &[i32], at: usize) -> SelfOrganised
 }
 
 pub fn incremental_in(list: &[i32]) -> Incremental
-    requires { ⌜ 21 ≤ length (now list) ⌝ }
+    requires { ⌜ listPlaces ≤ length (now list) ⌝ }
     ensures { λ r. ⌜ r ≡ incrementalIn (now (list .entry)) ⌝ }
 {
+    let f = plain_four(list, 15);
     Incremental {
-        sync: plain_at(list, 15),
-        increment: plain_at(list, 16),
-        code: plain_at(list, 17),
-        keep: plain_at(list, 18),
+        sync: f.a,
+        increment: f.b,
+        code: f.c,
+        keep: f.d,
     }
 }

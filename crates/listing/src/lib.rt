@@ -7,6 +7,7 @@ pub mod putting;
 ghost use mathlib.Core.Path.{_≡_};
 ghost use Prim.Native.Nat.{_≤_};
 ghost use lib.ListN.{length};
+ghost use Rattle.limits.specs.Limits.{listPlaces};
 ghost use Rattle.listing.specs.Listing.{messageIn};
 use getting::base_in;
 use getting::incremental_in;
@@ -17,7 +18,7 @@ use message::Message;
 
 // The message that a list of numbers says.
 pub fn message_in(list: &[i32]) -> Message
-    requires { ⌜ 21 ≤ length (now list) ⌝ }
+    requires { ⌜ listPlaces ≤ length (now list) ⌝ }
     ensures { λ r. ⌜ r ≡ messageIn (now (list .entry)) ⌝ }
 {
     let id = plain_at(list, 0);

@@ -4,15 +4,17 @@ ghost use mathlib.Core.Bool.{true, false};
 ghost use mathlib.Core.List.{[], _∷_};
 ghost use Prim.Native.Nat.{_+_, _≤_, _<_};
 ghost use lib.Dec.{eqb};
+ghost use lib.IntN.{pos};
 ghost use lib.ListN.{length};
 ghost use lib.Seq.{sets};
 ghost use Rattle.laws.specs.Tests.{between};
+ghost use Rattle.limits.specs.Limits.{messageBytes, listPlaces};
 ghost use Rattle.bits.specs.Row.{allFit};
-ghost use Rattle.message.specs.Message.{idIn, messageOf, reportRow, baseRow};
+ghost use Rattle.message.specs.Message.{idIn, messageOf};
 ghost use Rattle.message.specs.Sheet.{HeadOf};
 ghost use Rattle.message.specs.State.{clockOf, organisedOf, incrementalRow};
 ghost use Rattle.message.specs.declared.state.SubMessage.the-variants.{Time};
-ghost use Rattle.listing.specs.Listing.{reportNumbers, baseNumbers, subNumbers, organisedNumbers, incrementalNumbers, Lists};
+ghost use Rattle.listing.specs.Listing.{reportNumbers, baseNumbers, subNumbers, organisedNumbers, incrementalNumbers, Lists, Small, SmallReport, SmallBase};
 use bits::reader::Four;
 use bits::reader::take_four;
 use message::Base;
@@ -23,6 +25,13 @@ use message::state::Incremental;
 use message::state::State;
 use message::state::state_in;
 
+fn put_one(out: &mut [i32], at: usize, a: i32)
+    requires { ⌜ at < length (now out) ⌝ }
+    ensures { λ _. ⌜ now (out .exit) ≡ sets (now (out .entry)) at (a ∷ []) ⌝ }
+{
+    out[at] = a;
+}
+
 fn put_two(out: &mut [i32], at: usize, a: i32, b: i32)
     requires { ⌜ at + 2 ≤ length (now out) ⌝ }
     ensures { λ _. ⌜ now (out .exit) ≡ sets (now (out .entry)) at (a ∷ b ∷ []) ⌝ }
@@ -31,88 +40,63 @@ fn put_two(out: &mut [i32], at: usize, a: i32, b: i32)
     out[at + 1] = b;
 }
 
-fn put_four(out: &mut [i32], at: usize, a: i32, b: i32, c: i32, d: i32)
-    requires { ⌜ at + 4 ≤ length (now out) ⌝ }
-    ensures { λ _. ⌜ now (out .exit) ≡ sets (now (out .entry)) at (a ∷ b ∷ c ∷ d ∷ []) ⌝ }
+// Two numbers that have no sign.
+fn put_plain(out: &mut [i32], at: usize, a: u32, b: u32)
+    requires { ⌜ (at + 2 ≤ length (now out)) × Small a b ⌝ }
+    ensures { λ _. ⌜ now (out .exit) ≡ sets (now (out .entry)) at (pos a ∷ pos b ∷ []) ⌝ }
 {
-    put_two(out, at, a, b);
-    put_two(out, at + 2, c, d);
+    put_two(out, at, a as i32, b as i32);
+}
+
+fn put_plains(out: &mut [i32], at: usize, a: u32, b: u32, c: u32, d: u32)
+    requires { ⌜ (at + 4 ≤ length (now out)) × Small a b × Small c d ⌝ }
+    ensures { λ _. ⌜ now (out .exit) ≡ sets (now (out .entry)) at (pos a ∷ pos b ∷ pos c ∷ pos d ∷ []) ⌝ }
+{
+    put_plain(out, at, a, b);
+    put_plain(out, at + 2, c, d);
 }
 
 fn put_report(id: u32, r: Report, out: &mut [i32])
-    requires { ⌜ (21 ≤ length (now out)) × (allFit (reportRow id r) ≡ true) ⌝ }
+    requires { ⌜ (listPlaces ≤ length (now out)) × SmallReport id r ⌝ }
     ensures { λ _. ⌜ now (out .exit) ≡ sets (now (out .entry)) 0 (reportNumbers id r) ⌝ }
 {
     let turn = r.turn;
     let longitude = r.longitude;
     let latitude = r.latitude;
-    put_four(
-        out,
-        0,
-        id as i32,
-        r.repeat as i32,
-        r.source as i32,
-        r.status as i32,
-    );
-    put_four(out, 4, turn, r.speed as i32, r.accuracy as i32, longitude);
-    put_four(
-        out,
-        8,
-        latitude,
-        r.course as i32,
-        r.heading as i32,
-        r.second as i32,
-    );
-    put_two(out, 12, r.manoeuvre as i32, r.spare as i32);
-    out[14] = r.raim as i32;
+    put_plains(out, 0, id, r.repeat, r.source, r.status);
+    put_one(out, 4, turn);
+    put_plain(out, 5, r.speed, r.accuracy);
+    put_two(out, 7, longitude, latitude);
+    put_plains(out, 9, r.course, r.heading, r.second, r.manoeuvre);
+    put_plain(out, 13, r.spare, r.raim);
 }
 
 fn put_base(b: Base, out: &mut [i32])
-    requires { ⌜ (21 ≤ length (now out)) × (allFit (baseRow b) ≡ true) ⌝ }
+    requires { ⌜ (listPlaces ≤ length (now out)) × SmallBase b ⌝ }
     ensures { λ _. ⌜ now (out .exit) ≡ sets (now (out .entry)) 0 (baseNumbers b) ⌝ }
 {
     let longitude = b.longitude;
     let latitude = b.latitude;
-    put_four(out, 0, 4, b.repeat as i32, b.source as i32, b.year as i32);
-    put_four(
-        out,
-        4,
-        b.month as i32,
-        b.day as i32,
-        b.hour as i32,
-        b.minute as i32,
-    );
-    put_four(
-        out,
-        8,
-        b.second as i32,
-        b.accuracy as i32,
-        longitude,
-        latitude,
-    );
-    put_four(
-        out,
-        12,
-        b.fix as i32,
-        b.control as i32,
-        b.spare as i32,
-        b.raim as i32,
-    );
+    put_plains(out, 0, 4, b.repeat, b.source, b.year);
+    put_plains(out, 4, b.month, b.day, b.hour, b.minute);
+    put_plain(out, 8, b.second, b.accuracy);
+    put_two(out, 10, longitude, latitude);
+    put_plains(out, 12, b.fix, b.control, b.spare, b.raim);
 }
 
 // The clock of time-out 1.
 fn put_clock(bytes: &[u8], out: &mut [i32], at: usize) -> u32
-    requires { ⌜ (length (now bytes) ≡ 21) × (at < 2147483648) × (at + 4 ≤ length (now out)) ⌝ }
+    requires { ⌜ (length (now bytes) ≡ messageBytes) × (at < 2147483648) × (at + 4 ≤ length (now out)) ⌝ }
     ensures { λ r. ⌜ (r ≡ at + 4) × (now (out .exit) ≡ sets (now (out .entry)) at (subNumbers (Time (clockOf (now (bytes .entry)))))) ⌝ }
 {
     let f = take_four(bytes, 151, 3, 5, 7, 2);
-    put_four(out, at, 1, f.b as i32, f.c as i32, f.d as i32);
+    put_plains(out, at, 1, f.b, f.c, f.d);
     (at + 4) as u32
 }
 
 // The self-organised state: how many numbers stand in the list then.
 fn put_organised(bytes: &[u8], out: &mut [i32], at: usize) -> u32
-    requires { ⌜ (length (now bytes) ≡ 21) × (at < 2147483647) × (at + 5 ≤ length (now out)) ⌝ }
+    requires { ⌜ (length (now bytes) ≡ messageBytes) × (at < 2147483647) × (at + 5 ≤ length (now out)) ⌝ }
     ensures { λ r. ⌜ (r ≡ at + length (organisedNumbers (organisedOf (now (bytes .entry))))) × (now (out .exit) ≡ sets (now (out .entry)) at (organisedNumbers (organisedOf (now (bytes .entry))))) ⌝ }
 {
     let f = take_four(bytes, 148, 1, 2, 3, 14);
@@ -121,28 +105,21 @@ fn put_organised(bytes: &[u8], out: &mut [i32], at: usize) -> u32
     if f.c == 1 {
         return put_clock(bytes, out, next);
     }
-    put_two(out, next, f.c as i32, f.d as i32);
+    put_plain(out, next, f.c, f.d);
     (at + 3) as u32
 }
 
 fn put_incremental(s: Incremental, out: &mut [i32]) -> u32
-    requires { ⌜ (21 ≤ length (now out)) × (allFit (incrementalRow s) ≡ true) ⌝ }
+    requires { ⌜ (listPlaces ≤ length (now out)) × (allFit (incrementalRow s) ≡ true) ⌝ }
     ensures { λ r. ⌜ (r ≡ 15 + length (incrementalNumbers s)) × (now (out .exit) ≡ sets (now (out .entry)) 15 (incrementalNumbers s)) ⌝ }
 {
-    put_four(
-        out,
-        15,
-        s.sync as i32,
-        s.increment as i32,
-        s.code as i32,
-        s.keep as i32,
-    );
+    put_plains(out, 15, s.sync, s.increment, s.code, s.keep);
     19
 }
 
 // Of another message than 3.
 fn list_organised(bytes: &[u8], head: Four, out: &mut [i32]) -> u32
-    requires { ⌜ (length (now bytes) ≡ 21) × HeadOf (now bytes) head × (between 1 4 (idIn (now bytes)) ≡ true) × (eqb (idIn (now bytes)) 3 ≡ false) × (21 ≤ length (now out)) ⌝ }
+    requires { ⌜ (length (now bytes) ≡ messageBytes) × HeadOf (now bytes) head × (between 1 4 (idIn (now bytes)) ≡ true) × (eqb (idIn (now bytes)) 3 ≡ false) × (listPlaces ≤ length (now out)) ⌝ }
     ensures { λ r. ⌜ Lists (messageOf (now (bytes .entry))) (now (out .entry)) r (now (out .exit)) ⌝ }
 {
     let id = head.a;
@@ -157,7 +134,7 @@ fn list_organised(bytes: &[u8], head: Four, out: &mut [i32]) -> u32
 // The numbers of the message in 21 bytes, whose first fields have been read, in the first places of out: how many. It goes straight from the
 // bytes to the list; with the message made between them it took three times as long. Message 3 alone carries the incremental state.
 pub fn list(bytes: &[u8], head: Four, out: &mut [i32]) -> u32
-    requires { ⌜ (length (now bytes) ≡ 21) × HeadOf (now bytes) head × (between 1 4 (idIn (now bytes)) ≡ true) × (21 ≤ length (now out)) ⌝ }
+    requires { ⌜ (length (now bytes) ≡ messageBytes) × HeadOf (now bytes) head × (between 1 4 (idIn (now bytes)) ≡ true) × (listPlaces ≤ length (now out)) ⌝ }
     ensures { λ r. ⌜ Lists (messageOf (now (bytes .entry))) (now (out .entry)) r (now (out .exit)) ⌝ }
 {
     let state = state_in(bytes, head.a);

@@ -15,6 +15,7 @@ use lib.Signed.{mag}
 use lib.ListN.{length}
 use Rattle.laws.specs.Tests.{pick, between}
 use Rattle.laws.proofs.Tests.{between-low, between-high, both-no}
+use Rattle.limits.specs.Limits.{messageBytes}
 use Rattle.numbers.specs.declared.Refusal.the-variants.{MessageLength, UnknownId}
 use Rattle.bits.specs.Field.{fieldOf}
 use Rattle.bits.proofs.Fields.{field-bound}
@@ -133,19 +134,19 @@ module _ (l : List ℕ) (id : ℕ) (e : id ≡ idIn l) where
 
 -- ---- reading
 
-pub read-length : (l : List ℕ) → (length l ≡ 21 → ⊥) → readAnswer l ≡ Refused MessageLength
+pub read-length : (l : List ℕ) → (length l ≡ messageBytes → ⊥) → readAnswer l ≡ Refused MessageLength
 unfolding readAnswer
-read-length l n = simp (ne-eqb (length l) 21 n)
+read-length l n = simp (ne-eqb (length l) messageBytes n)
 
-module _ (l : List ℕ) (e : length l ≡ 21) where
+module _ (l : List ℕ) (e : length l ≡ messageBytes) where
   pub read-low : idIn l < 1 → readAnswer l ≡ Refused UnknownId
   unfolding readAnswer
-  read-low h = simp (eq-eqb (length l) 21 e, between-low 1 4 (idIn l) h)
+  read-low h = simp (eq-eqb (length l) messageBytes e, between-low 1 4 (idIn l) h)
 
   pub read-high : 4 < idIn l → readAnswer l ≡ Refused UnknownId
   unfolding readAnswer
-  read-high h = simp (eq-eqb (length l) 21 e, between-high 1 4 (idIn l) h)
+  read-high h = simp (eq-eqb (length l) messageBytes e, between-high 1 4 (idIn l) h)
 
   pub read-good : between 1 4 (idIn l) ≡ true → Got (messageOf l) ≡ readAnswer l
   unfolding readAnswer
-  read-good h = simp (eq-eqb (length l) 21 e, h)
+  read-good h = simp (eq-eqb (length l) messageBytes e, h)

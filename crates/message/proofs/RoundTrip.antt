@@ -15,6 +15,7 @@ use Rattle.laws.specs.Tests.{pick, between}
 use Rattle.laws.specs.Lists.{over, AllBytes}
 use Rattle.laws.proofs.Tests.{between-is}
 use Rattle.laws.proofs.Unique.{unique}
+use Rattle.limits.specs.Limits.{messageBytes}
 use Rattle.bits.specs.Bits.{highValue}
 use Rattle.bits.specs.Field.{bitsOf, packed, fieldOf}
 use Rattle.bits.specs.Row.{laid, widthOf, allFit, rowAt, widthsOf}
@@ -23,7 +24,7 @@ use Rattle.bits.proofs.Fields.{length-bits, packed-bits, bits-packed, field-bou
 use Rattle.bits.proofs.Rows.{length-laid, laid-bits, row-laid, laid-row}
 use Rattle.message.specs.Signs.{signedOf, unsignedOf}
 use Rattle.message.specs.State.{clockOf, subOf, organisedOf, incrementalOf, timeOutOf, subRow, organisedRow, incrementalRow}
-use Rattle.message.specs.Message.{receivedNumber, writtenNumber, idIn, reportOf, baseOf, organisedMessage, messageOf, readAnswer, reportRow, baseRow, rowOf, known, writeAnswer, bytesOf, writeOut}
+use Rattle.message.specs.Message.{receivedNumber, writtenNumber, idIn, reportOf, baseOf, organisedMessage, messageOf, readTests, readAnswer, reportRow, baseRow, rowOf, known, writeTests, writeAnswer, bytesOf, writeOut}
 use Rattle.message.specs.Promises.{ReadAfterWrite, WriteAfterRead, ReadOnce, WriteOnce}
 use Rattle.message.specs.declared.Report.{Report}
 use Rattle.message.specs.declared.Base.{Base}
@@ -216,7 +217,7 @@ messageAt l id = pick (eqb id 3) (Three (reportOf l) (incrementalOf l)) (organis
 module _ (m : Message) (k : known m ≡ true) (fit : allFit (rowOf m) ≡ true) where
   written-bits : bitsOf (bytesOf m) ≡ laid (rowOf m)
   unfolding bytesOf
-  written-bits = bits-packed 21 (laid (rowOf m)) (length-laid (rowOf m) ∙ row-width m k) (laid-bits (rowOf m))
+  written-bits = bits-packed messageBytes (laid (rowOf m)) (length-laid (rowOf m) ∙ row-width m k) (laid-bits (rowOf m))
 
   written-row : rowAt (widthsOf (rowOf m)) 0 (bytesOf m) ≡ rowOf m
   written-row = row-laid (rowOf m) (bytesOf m) [] [] 0 refl (written-bits ∙ sym (append-nil (laid (rowOf m)))) fit
@@ -226,7 +227,7 @@ module _ (m : Message) (k : known m ≡ true) (fit : allFit (rowOf m) ≡ true) 
   unfolding bytesOf packed messageOf
   read-as id h e =
       let l = bytesOf m in
-      sym (read-good l (length-eights (highValue 0) 21 (laid (rowOf m))) (subst (λ n. between 1 4 n ≡ true) (sym e) h)) ∙ ap (λ (n : ℕ). Got (messageAt l n)) e
+      sym (read-good l (length-eights (highValue 0) messageBytes (laid (rowOf m))) (subst (λ n. between 1 4 n ≡ true) (sym e) h)) ∙ ap (λ (n : ℕ). Got (messageAt l n)) e
 
 message-back : (m : Message) → known m ≡ true → allFit (rowOf m) ≡ true → readAnswer (bytesOf m) ≡ Got m
 unfolding organisedMessage
@@ -255,7 +256,7 @@ message-again l (suc (suc (suc zero))) e h k = (refl, report-again l 3 _ e (incr
 message-again l (suc (suc (suc (suc zero)))) e h k = (refl, base-again l _ e (organised-again l))
 message-again l (suc (suc (suc (suc (suc n))))) e h k = absurd (omega arith)
 
-bytes-again : (l : List ℕ) (m : Message) → length l ≡ 21 → known m ≡ true → Stands l 0 (rowOf m) → AllBytes l → bytesOf m ≡ l
+bytes-again : (l : List ℕ) (m : Message) → length l ≡ messageBytes → known m ≡ true → Stands l 0 (rowOf m) → AllBytes l → bytesOf m ≡ l
 unfolding Stands bytesOf
 bytes-again l m n k s bytes =
     let w : widthOf (rowAt (s .0) 0 l) ≡ 168 = ap widthOf (sym (s .1)) ∙ row-width m k in
@@ -264,11 +265,11 @@ bytes-again l m n k s bytes =
     ap₂ packed (sym n) bits ∙ packed-bits l bytes
 
 -- what an accepted message says stands in the bytes
-stands-again : (l : List ℕ) (m : Message) → readAnswer l ≡ Got m → (length l ≡ 21) × (known m ≡ true) × Stands l 0 (rowOf m)
-unfolding messageOf
+stands-again : (l : List ℕ) (m : Message) → readAnswer l ≡ Got m → (length l ≡ messageBytes) × (known m ≡ true) × Stands l 0 (rowOf m)
+unfolding readTests messageOf
 stands-again l m e =
-    let t = read-exactly l .given-0 .0 (ap receivedNumber e) in
-    let n = eqb-true (length l) 21 (t .0) in
+    let t = read-exactly l .none .0 (ap receivedNumber e) in
+    let n = eqb-true (length l) messageBytes (t .0) in
     let b = between-is 1 4 (idIn l) (t .1) in
     let got = read-good l n (t .1) ∙ e in
     let is : messageOf l ≡ m = cc in
@@ -278,15 +279,16 @@ stands-again l m e =
 -- ---- the promises
 
 pub read-after-write : ReadAfterWrite
+unfolding writeTests
 read-after-write m room e =
-    let t = write-exactly m room .given-0 .0 (ap writtenNumber e) in
+    let t = write-exactly m room .none .0 (ap writtenNumber e) in
     message-back m (t .1 .0) (t .1 .1)
 
 pub write-after-read : WriteAfterRead
 unfolding writeAnswer writeOut
 write-after-read l m bytes e out h =
     let a = stands-again l m e in
-    (simp (le-leb 21 (length out) h, a .1, stands-fit l 0 (rowOf m) (a .2)), ap (λ (x : List ℕ). over x out) (sym (bytes-again l m (a .0) (a .1) (a .2) bytes)))
+    (simp (le-leb messageBytes (length out) h, a .1, stands-fit l 0 (rowOf m) (a .2)), ap (λ (x : List ℕ). over x out) (sym (bytes-again l m (a .0) (a .1) (a .2) bytes)))
 
 pub read-once : ReadOnce
 read-once l r r′ h k = h ∙ sym k

@@ -1,8 +1,8 @@
 -- Rows that are tested and laid part by part, and which answer the tests on the way lead to, where a message is written.
 -- Assumes nothing.
 use mathlib.Core.Path.{_≡_, refl, sym, ap, ap₂, _∙_}
-use mathlib.Core.Bool.{Bool, true, false, not}
-use mathlib.Core.List.{List, [], _∷_, _++_, append-nil}
+use mathlib.Core.Bool.{Bool, true, false}
+use mathlib.Core.List.{List, [], _∷_, _++_, append-nil, append-assoc}
 use Prim.Native.Nat.{ℕ, _+_, _*_, _^_, _≤_, _<_}
 use native.Mathlib.Omega.{arith}
 use borrow.Author.Tests.{le-leb, lt-leb, lt-ltb}
@@ -16,8 +16,9 @@ use lib.Signed.{mag}
 use lib.ListN.{length, getD}
 use Rattle.laws.specs.Tests.{both, pick}
 use Rattle.laws.specs.Lists.{over}
-use Rattle.laws.proofs.Tests.{both-yes, was-false, was-true}
+use Rattle.laws.proofs.Tests.{both-yes}
 use Rattle.laws.proofs.Lists.{all-bytes}
+use Rattle.limits.specs.Limits.{messageBytes}
 use Rattle.numbers.specs.declared.Refusal.the-variants.{NoRoom, UnknownId, TooWide}
 use Rattle.bits.specs.Bits.{highFirst}
 use Rattle.bits.specs.Field.{packed}
@@ -27,14 +28,12 @@ use Rattle.bits.specs.declared.reader.Four.{Four}
 use Rattle.message.specs.State.{timeOutOf, subRow, organisedRow}
 use Rattle.message.specs.Signs.{unsignedOf}
 use Rattle.message.specs.Message.{reportRow, baseRow, rowOf, known, writeAnswer}
-use Rattle.message.specs.Sheet.{clockValue, valueOf, organisedFour, incrementalFour, reportRows, baseRows, sheetOf, reportFields, baseFields, headFields, stateFields, fieldsIn}
+use Rattle.message.specs.Sheet.{clockValue, valueOf, organisedFour, incrementalFour, reportRows, baseRows, sheetOf, EachFits, reportFields, baseFields, headFields, stateFields, fieldsIn}
 use Rattle.message.specs.declared.state.Clock.{Clock}
 use Rattle.message.specs.declared.state.SubMessage.{SubMessage}
 use Rattle.message.specs.declared.state.SubMessage.the-variants.{Offset, Time, Slot, Stations}
 use Rattle.message.specs.declared.state.SelfOrganised.{SelfOrganised}
-use Rattle.message.specs.declared.state.Incremental.{Incremental}
 use Rattle.message.specs.declared.Report.{Report}
-use Rattle.message.specs.declared.Base.{Base}
 use Rattle.message.specs.declared.writing.Rows.{Rows}
 use Rattle.message.specs.declared.writing.Sheet.{Sheet}
 use Rattle.message.specs.declared.writing.Sheet.the-variants.{Known, Unknown}
@@ -45,11 +44,8 @@ use Rattle.message.specs.declared.Written.the-variants.{Done, Refused as
 -- ---- two rows, one after the other
 
 module _ (fs gs : List (ℕ × ℕ)) where
-  pub fit-no : {t : Bool} → t ≡ allFit fs → not t ≡ true → false ≡ allFit (fs ++ gs)
-  fit-no e n = sym (fit-append fs gs ∙ ap (λ (b : Bool). both b (allFit gs)) (sym e ∙ was-false n))
-
-  pub fit-yes : {t u : Bool} → t ≡ allFit fs → not t ≡ false → u ≡ allFit gs → u ≡ allFit (fs ++ gs)
-  fit-yes e n h = h ∙ sym (fit-append fs gs ∙ ap (λ (b : Bool). both b (allFit gs)) (sym e ∙ was-true n))
+  pub fit-two : {t u : Bool} → t ≡ allFit fs → u ≡ allFit gs → both t u ≡ allFit (fs ++ gs)
+  fit-two e f = ap₂ both e f ∙ sym (fit-append fs gs)
 
   lay-more : (l : List ℕ) {l₁ l₂ : List ℕ} {i : ℕ} → widthOf fs ≡ i → i + widthOf gs ≤ 8 * length l → l₁ ≡ layOver l 0 fs → l₂ ≡ layOver l₁ i gs → l₂ ≡ layOver l 0 (fs ++ gs)
   lay-more l {i = i} w h e f =
@@ -67,41 +63,26 @@ nothing-laid fs = laid-append fs ((0, 0) ∷ []) ∙ append-nil (laid fs)
 
 -- ---- four rows, as the code tests and lays them
 
-pub record Parts (a b c d : List (ℕ × ℕ)) : Type 0 where
-  pub first-no : {t : Bool} → t ≡ allFit a → not t ≡ true → false ≡ allFit (a ++ b ++ c ++ d)
-  pub second-no : {t u : Bool} → t ≡ allFit a → not t ≡ false → u ≡ allFit b → not u ≡ true → false ≡ allFit (a ++ b ++ c ++ d)
-  pub third-no : {t u v : Bool} → t ≡ allFit a → not t ≡ false → u ≡ allFit b → not u ≡ false → v ≡ allFit c → not v ≡ true
-      → false ≡ allFit (a ++ b ++ c ++ d)
-  pub all-but-last : {t u v w : Bool} → t ≡ allFit a → not t ≡ false → u ≡ allFit b → not u ≡ false → v ≡ allFit c → not v ≡ false → w ≡ allFit d
-      → w ≡ allFit (a ++ b ++ c ++ d)
-  pub each : allFit (a ++ b ++ c ++ d) ≡ true → (allFit a ≡ true) × (allFit b ≡ true) × (allFit c ≡ true) × (allFit d ≡ true)
+module _ (a b c d : List (ℕ × ℕ)) where
+  pub fit-all : {t u v w p q r : Bool} → t ≡ allFit a → u ≡ allFit b → v ≡ allFit c → w ≡ allFit d → p ≡ both t u → q ≡ both v w → r ≡ both p q
+      → r ≡ allFit (a ++ b ++ c ++ d)
+  fit-all e f g h k l m =
+      m ∙ fit-two (a ++ b) (c ++ d) (k ∙ fit-two a b e f) (l ∙ fit-two c d g h) ∙ ap allFit (sym (append-assoc (a ++ b) c d))
+
+  pub each : allFit (a ++ b ++ c ++ d) ≡ true → EachFits (a, b, c, d)
+  each e =
+      let f = fit-both (a ++ b ++ c) d e in
+      let g = fit-both (a ++ b) c (f .0) in
+      let h = fit-both a b (g .0) in
+      (h .0, h .1, g .1, f .1)
+
   pub lays : (l : List ℕ) {l₁ l₂ l₃ l₄ : List ℕ} → widthOf a + widthOf b + widthOf c + widthOf d ≤ 8 * length l
       → l₁ ≡ layOver l 0 a → l₂ ≡ layOver l₁ (widthOf a) b → l₃ ≡ layOver l₂ (widthOf a + widthOf b) c → l₄ ≡ layOver l₃ (widthOf a + widthOf b + widthOf c) d
       → l₄ ≡ layOver l 0 (a ++ b ++ c ++ d)
-
-parts : (a b c d : List (ℕ × ℕ)) → Parts a b c d
-parts a b c d =
-    record {
-      first-no = λ e n. fit-no (a ++ b ++ c) d (fit-no (a ++ b) c (fit-no a b e n) refl) refl;
-      second-no = λ e n f m. fit-no (a ++ b ++ c) d (fit-no (a ++ b) c (fit-yes a b e n f) m) refl;
-      third-no = λ e n f m g k. fit-no (a ++ b ++ c) d (fit-yes (a ++ b) c (fit-yes a b e n f) m g) k;
-      all-but-last = λ e n f m g k h. fit-yes (a ++ b ++ c) d (fit-yes (a ++ b) c (fit-yes a b e n f) m g) k h;
-      each = λ e.
-          let f = fit-both (a ++ b ++ c) d e in
-          let g = fit-both (a ++ b) c (f .0) in
-          let h = fit-both a b (g .0) in
-          (h .0, h .1, g .1, f .1);
-      lays = λ l h e f g k.
-          let two = width-append a b in
-          let three = width-append (a ++ b) c ∙ ap (_+ widthOf c) two in
-          lay-more (a ++ b ++ c) d l three h (lay-more (a ++ b) c l two (omega arith) (lay-more a b l refl (omega arith) e f) g) k;
-    }
-
-pub report-parts : (x : Rows) → Parts (fourRow (x .a) 6 2 30 4) (fourRow (x .b) 8 10 1 28) (fourRow (x .c) 27 12 9 6) (fourRow (x .d) 2 3 1 0)
-report-parts x = parts _ _ _ _
-
-pub base-parts : (x : Rows) → Parts (fourRow (x .a) 6 2 30 14) (fourRow (x .b) 4 5 5 6) (fourRow (x .c) 6 1 28 27) (fourRow (x .d) 4 1 9 1)
-base-parts x = parts _ _ _ _
+  lays l h e f g k =
+      let two = width-append a b in
+      let three = width-append (a ++ b) c ∙ ap (_+ widthOf c) two in
+      lay-more (a ++ b ++ c) d l three h (lay-more (a ++ b) c l two (omega arith) (lay-more a b l refl (omega arith) e f) g) k
 
 -- a signed field is passed as bits
 pub of-bits : (w v : ℕ) (z : ℤ) → mag z < 2 ^ 31 → v ≡ unsignedOf w (toZ w32 (ofZ w32 z)) → v ≡ unsignedOf w z
@@ -196,42 +177,6 @@ says (Three r s) = (refl, lay-both _ _ _ _ (report-lays 3 r (incrementalFour s) 
 says (Station b s) = (refl, lay-both (baseFields (baseRows b (organisedFour s))) _ (baseRow b) _ (refl, λ _. refl) (organised-lays s))
 says Other = refl
 
--- ---- which rows they are
-
-module _ {m : Message} {f : Four} {x : Rows} where
-  pub sheet-one : {r : Report} {s : SelfOrganised} → m ≡ One r s → f ≡ organisedFour s → x ≡ reportRows 1 r f false → Known x ≡ sheetOf m
-  unfolding sheetOf
-  sheet-one {r} e g h = ap Known (h ∙ ap (λ (f : Four). reportRows 1 r f false) g) ∙ sym (ap sheetOf e)
-
-  pub sheet-two : {r : Report} {s : SelfOrganised} → m ≡ Two r s → f ≡ organisedFour s → x ≡ reportRows 2 r f false → Known x ≡ sheetOf m
-  unfolding sheetOf
-  sheet-two {r} e g h = ap Known (h ∙ ap (λ (f : Four). reportRows 2 r f false) g) ∙ sym (ap sheetOf e)
-
-  pub sheet-three : {r : Report} {s : Incremental} → m ≡ Three r s → f ≡ incrementalFour s → x ≡ reportRows 3 r f true → Known x ≡ sheetOf m
-  unfolding sheetOf
-  sheet-three {r} e g h = ap Known (h ∙ ap (λ (f : Four). reportRows 3 r f true) g) ∙ sym (ap sheetOf e)
-
-  pub sheet-four : {b : Base} {s : SelfOrganised} → m ≡ Station b s → f ≡ organisedFour s → x ≡ baseRows b f → Known x ≡ sheetOf m
-  unfolding sheetOf
-  sheet-four {b} e g h = ap Known (h ∙ ap (baseRows b) g) ∙ sym (ap sheetOf e)
-
-module _ (x : Rows) where
-  pub head-base : x .base ≡ true → headFields x ≡ baseFields x
-  unfolding headFields
-  head-base e = ap (λ (t : Bool). pick t (baseFields x) (reportFields x)) e
-
-  pub head-report : x .base ≡ false → headFields x ≡ reportFields x
-  unfolding headFields
-  head-report e = ap (λ (t : Bool). pick t (baseFields x) (reportFields x)) e
-
-  pub state-incremental : x .increments ≡ true → stateFields x ≡ fourRow (x .state) 2 13 3 1
-  unfolding stateFields
-  state-incremental e = ap (λ (t : Bool). pick t (fourRow (x .state) 2 13 3 1) (fourRow (x .state) 2 3 14 0)) e
-
-  pub state-organised : x .increments ≡ false → stateFields x ≡ fourRow (x .state) 2 3 14 0
-  unfolding stateFields
-  state-organised e = ap (λ (t : Bool). pick t (fourRow (x .state) 2 13 3 1) (fourRow (x .state) 2 3 14 0)) e
-
 -- ---- the whole message: 149 bits, and the state's 19
 
 head-width : (x : Rows) → widthOf (headFields x) ≡ 149
@@ -250,28 +195,28 @@ state-width x = go (x .increments)
     go true = refl
     go false = refl
 
-pub whole : (l : List ℕ) {l₁ l₂ : List ℕ} (x : Rows) → ((i : ℕ) → getD l i 0 < 256) → 21 ≤ length l
-    → l₁ ≡ layOver l 0 (headFields x) → l₂ ≡ layOver l₁ 149 (stateFields x) → l₂ ≡ over (packed 21 (laid (fieldsIn x))) l
+pub whole : (l : List ℕ) {l₁ l₂ : List ℕ} (x : Rows) → ((i : ℕ) → getD l i 0 < 256) → messageBytes ≤ length l
+    → l₁ ≡ layOver l 0 (headFields x) → l₂ ≡ layOver l₁ 149 (stateFields x) → l₂ ≡ over (packed messageBytes (laid (fieldsIn x))) l
 whole l x bytes room e f =
     lay-more (headFields x) (stateFields x) l (head-width x) (omega (arith, state-width x)) e f
-    ∙ lay-whole l 21 (fieldsIn x) (all-bytes l bytes) (width-append (headFields x) (stateFields x) ∙ omega (arith, head-width x, state-width x)) room
+    ∙ lay-whole l messageBytes (fieldsIn x) (all-bytes l bytes) (width-append (headFields x) (stateFields x) ∙ omega (arith, head-width x, state-width x)) room
 
 -- ---- writing
 
-pub write-room : (m : Message) (room : ℕ) → room < 21 → NotWritten NoRoom ≡ writeAnswer m room
+pub write-room : (m : Message) (room : ℕ) → room < messageBytes → NotWritten NoRoom ≡ writeAnswer m room
 unfolding writeAnswer
-write-room m room h = simp (lt-leb 21 room h)
+write-room m room h = simp (lt-leb messageBytes room h)
 
-module _ (m : Message) (room : ℕ) (h : 21 ≤ room) where
+module _ (m : Message) (room : ℕ) (h : messageBytes ≤ room) where
   pub write-unknown : known m ≡ false → NotWritten UnknownId ≡ writeAnswer m room
   unfolding writeAnswer
-  write-unknown e = simp (le-leb 21 room h, e)
+  write-unknown e = simp (le-leb messageBytes room h, e)
 
   module _ (k : known m ≡ true) where
     pub write-wide : allFit (rowOf m) ≡ false → NotWritten TooWide ≡ writeAnswer m room
     unfolding writeAnswer
-    write-wide e = simp (le-leb 21 room h, k, e)
+    write-wide e = simp (le-leb messageBytes room h, k, e)
 
     pub write-good : allFit (rowOf m) ≡ true → Done ≡ writeAnswer m room
     unfolding writeAnswer
-    write-good e = simp (le-leb 21 room h, k, e)
+    write-good e = simp (le-leb messageBytes room h, k, e)

@@ -4,11 +4,11 @@ use Prim.Native.Nat.{ℕ}
 use mathlib.Core.Path.{_≡_}
 use mathlib.Core.Bool.{Bool, true, false}
 use mathlib.Core.List.{List, [], _∷_, _++_}
-use lib.IntN.{ℤ, natAbs}
 use lib.Dec.{leb, eqb}
 use lib.ListN.{length}
-use Rattle.laws.specs.Tests.{both, pick, between, ladder}
+use Rattle.laws.specs.Tests.{pick, between, ladder}
 use Rattle.laws.specs.Lists.{over}
+use Rattle.limits.specs.Limits.{messageBytes}
 use Rattle.numbers.specs.declared.Refusal.the-variants.{NoRoom, MessageLength, UnknownId, TooWide}
 use Rattle.numbers.specs.Numbers.{numberOf}
 use Rattle.bits.specs.Field.{fieldOf, packed}
@@ -91,7 +91,7 @@ messageOf l = pick (eqb (idIn l) 3) (Three (reportOf l) (incrementalOf l)) (orga
 
 unfoldable pub readTests : List ℕ → List (Bool × Received)
 readTests l =
-    (eqb (length l) 21, Refused MessageLength)
+    (eqb (length l) messageBytes, Refused MessageLength)
     ∷ (between 1 4 (idIn l), Refused UnknownId)
     ∷ []
 
@@ -133,7 +133,7 @@ known Other = false
 
 unfoldable pub writeTests : Message → ℕ → List (Bool × Written)
 writeTests m room =
-    (leb 21 room, NotWritten NoRoom)
+    (leb messageBytes room, NotWritten NoRoom)
     ∷ (known m, NotWritten UnknownId)
     ∷ (allFit (rowOf m), NotWritten TooWide)
     ∷ []
@@ -144,7 +144,7 @@ writeAnswer m room = ladder (writeTests m room) Done
 
 -- the 21 bytes of a message
 unfoldable pub bytesOf : Message → List ℕ
-bytesOf m = packed 21 (laid (rowOf m))
+bytesOf m = packed messageBytes (laid (rowOf m))
 
 unfoldable pub writeOut : Written → Message → List ℕ → List ℕ
 writeOut Done m out = over (bytesOf m) out
@@ -153,9 +153,3 @@ writeOut (NotWritten r) m out = out
 -- what `write` promises: one answer, and one content of the lent buffer
 abbrev pub Writes : Message → List ℕ → Written → List ℕ → Type 0
 Writes m out r out′ = (r ≡ writeAnswer m (length out)) × (out′ ≡ writeOut r m out)
-
--- ---- positions, in 1/10000 minute
-
--- latitude and longitude of a place that can be
-unfoldable pub knownPlace : ℤ → ℤ → Bool
-knownPlace lat lon = both (leb (natAbs lat) 54000000) (leb (natAbs lon) 108000000)

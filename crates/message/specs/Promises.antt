@@ -2,15 +2,12 @@
 -- Assumes nothing.
 use Prim.Native.Nat.{ℕ, _≤_}
 use mathlib.Core.Path.{_≡_}
-use mathlib.Core.Bool.{true, false}
-use mathlib.Core.Logic.{_↔_}
-use mathlib.Core.List.{List}
-use lib.Dec.{leb, eqb}
+use mathlib.Core.List.{List, [], _∷_}
 use lib.ListN.{length}
-use Rattle.laws.specs.Tests.{between}
 use Rattle.laws.specs.Lists.{over, AllBytes}
-use Rattle.bits.specs.Row.{allFit}
-use Rattle.message.specs.Message.{receivedNumber, writtenNumber, idIn, readAnswer, rowOf, known, writeAnswer, bytesOf, Writes}
+use Rattle.laws.specs.Exactly.{Exactly}
+use Rattle.limits.specs.Limits.{messageBytes}
+use Rattle.message.specs.Message.{receivedNumber, writtenNumber, readTests, readAnswer, writeTests, writeAnswer, bytesOf, Writes}
 use Rattle.message.specs.declared.Message.{Message}
 use Rattle.message.specs.declared.Received.{Received}
 use Rattle.message.specs.declared.Received.the-variants.{Message as Got}
@@ -25,7 +22,7 @@ ReadAfterWrite = (m : Message) (room : ℕ) → writeAnswer m room ≡ Done → 
 abbrev pub WriteAfterRead : Type 0
 WriteAfterRead =
     (l : List ℕ) (m : Message) → AllBytes l → readAnswer l ≡ Got m
-    → (out : List ℕ) → 21 ≤ length out → Writes m out Done (over l out)
+    → (out : List ℕ) → messageBytes ≤ length out → Writes m out Done (over l out)
 
 -- no second answer, and no second content, meets the contract
 abbrev pub ReadOnce : Type 0
@@ -35,21 +32,10 @@ abbrev pub WriteOnce : Type 0
 WriteOnce =
     (m : Message) (out : List ℕ) (r r′ : Written) (o o′ : List ℕ) → Writes m out r o → Writes m out r′ o′ → (r ≡ r′) × (o ≡ o′)
 
--- ---- each number is given exactly when; 0 is none
+-- ---- each number is given exactly when
 
-pub record ReadExactly (l : List ℕ) : Type 0 where
-  pub given-17 : (receivedNumber (readAnswer l) ≡ 17) ↔ (eqb (length l) 21 ≡ false)
-  pub given-18 : (receivedNumber (readAnswer l) ≡ 18) ↔ ((eqb (length l) 21 ≡ true) × (between 1 4 (idIn l) ≡ false))
-  pub given-0 : (receivedNumber (readAnswer l) ≡ 0) ↔ ((eqb (length l) 21 ≡ true) × (between 1 4 (idIn l) ≡ true))
+abbrev pub ReadExactly : Type 0
+ReadExactly = (l : List ℕ) → Exactly (17 ∷ 18 ∷ []) receivedNumber (readTests l) (readAnswer l)
 
-abbrev pub RoomRight : ℕ → Type 0
-RoomRight room = leb 21 room ≡ true
-
-abbrev pub IdRight : Message → Type 0
-IdRight m = known m ≡ true
-
-pub record WriteExactly (m : Message) (room : ℕ) : Type 0 where
-  pub given-12 : (writtenNumber (writeAnswer m room) ≡ 12) ↔ (leb 21 room ≡ false)
-  pub given-18 : (writtenNumber (writeAnswer m room) ≡ 18) ↔ (RoomRight room × (known m ≡ false))
-  pub given-19 : (writtenNumber (writeAnswer m room) ≡ 19) ↔ (RoomRight room × (IdRight m × (allFit (rowOf m) ≡ false)))
-  pub given-0 : (writtenNumber (writeAnswer m room) ≡ 0) ↔ (RoomRight room × (IdRight m × (allFit (rowOf m) ≡ true)))
+abbrev pub WriteExactly : Type 0
+WriteExactly = (m : Message) (room : ℕ) → Exactly (12 ∷ 18 ∷ 19 ∷ []) writtenNumber (writeTests m room) (writeAnswer m room)

@@ -7,8 +7,9 @@ use mathlib.Core.List.{List, _++_}
 use lib.Dec.{leb}
 use lib.ListN.{length}
 use Rattle.laws.specs.Tests.{both, pick, between}
+use Rattle.limits.specs.Limits.{messageBytes}
 use Rattle.bits.specs.Field.{fieldOf}
-use Rattle.bits.specs.Row.{fourRow}
+use Rattle.bits.specs.Row.{allFit, fourRow}
 use Rattle.bits.specs.declared.reader.Four.{Four}
 use Rattle.message.specs.Signs.{unsignedOf}
 use Rattle.message.specs.State.{organisedOf, incrementalOf, timeOutOf}
@@ -39,7 +40,7 @@ HeadOf l f = (f .a ≡ idIn l) × (f .b ≡ fieldOf l 6 2) × (f .c ≡ fieldOf 
 
 -- what `head_of` gives: the first fields of a message that can be read, or what reading gives
 abbrev pub Heads : List ℕ → Head → Type 0
-Heads l (Begun f) = (length l ≡ 21) × (between 1 4 (idIn l) ≡ true) × HeadOf l f
+Heads l (Begun f) = (length l ≡ messageBytes) × (between 1 4 (idIn l) ≡ true) × HeadOf l f
 Heads l (NoHead r) = readAnswer l ≡ Refused r
 
 -- a state that stands in these bytes
@@ -101,11 +102,27 @@ sheetOf Other = Unknown
 
 -- ---- their widths
 
+-- four rows, as they are tested and laid
+abbrev pub Parts : Type 0
+Parts = List (ℕ × ℕ) × List (ℕ × ℕ) × List (ℕ × ℕ) × List (ℕ × ℕ)
+
+abbrev pub inOne : Parts → List (ℕ × ℕ)
+inOne p = p .0 ++ p .1 ++ p .2 ++ p .3
+
+abbrev pub EachFits : Parts → Type 0
+EachFits p = (allFit (p .0) ≡ true) × (allFit (p .1) ≡ true) × (allFit (p .2) ≡ true) × (allFit (p .3) ≡ true)
+
+abbrev pub reportParts : Rows → Parts
+reportParts x = (fourRow (x .a) 6 2 30 4, fourRow (x .b) 8 10 1 28, fourRow (x .c) 27 12 9 6, fourRow (x .d) 2 3 1 0)
+
+abbrev pub baseParts : Rows → Parts
+baseParts x = (fourRow (x .a) 6 2 30 14, fourRow (x .b) 4 5 5 6, fourRow (x .c) 6 1 28 27, fourRow (x .d) 4 1 9 1)
+
 abbrev pub reportFields : Rows → List (ℕ × ℕ)
-reportFields x = fourRow (x .a) 6 2 30 4 ++ fourRow (x .b) 8 10 1 28 ++ fourRow (x .c) 27 12 9 6 ++ fourRow (x .d) 2 3 1 0
+reportFields x = inOne (reportParts x)
 
 abbrev pub baseFields : Rows → List (ℕ × ℕ)
-baseFields x = fourRow (x .a) 6 2 30 14 ++ fourRow (x .b) 4 5 5 6 ++ fourRow (x .c) 6 1 28 27 ++ fourRow (x .d) 4 1 9 1
+baseFields x = inOne (baseParts x)
 
 unfoldable pub headFields : Rows → List (ℕ × ℕ)
 headFields x = pick (x .base) (baseFields x) (reportFields x)

@@ -8,6 +8,7 @@ pub mod writing;
 
 ghost use mathlib.Core.Path.{_≡_};
 ghost use Rattle.message.specs.Message.{readAnswer, Writes};
+use limits::MESSAGE;
 use numbers::Refusal;
 use reading::Head;
 use reading::head_of;
@@ -90,7 +91,7 @@ pub fn read(bytes: &[u8]) -> Received
 pub fn write(message: Message, out: &mut [u8]) -> Written
     ensures { λ r. ⌜ Writes message (now (out .entry)) r (now (out .exit)) ⌝ }
 {
-    if out.len() < 21 {
+    if out.len() < MESSAGE {
         return Written::Refused(Refusal::NoRoom);
     }
     let sheet = sheet_of(message);

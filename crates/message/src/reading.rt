@@ -1,6 +1,7 @@
 // A message from its 21 bytes: what it begins with, its parts, and the whole. Promise: it is `messageOf` the bytes (specs/Message.antt).
 ghost use mathlib.Core.Path.{_≡_};
 ghost use lib.ListN.{length};
+ghost use Rattle.limits.specs.Limits.{messageBytes};
 ghost use Rattle.message.specs.Message.{reportOf, baseOf, messageOf, organisedMessage};
 ghost use Rattle.message.specs.Sheet.{HeadOf, Heads, StandsIn};
 use crate::Base;
@@ -12,6 +13,7 @@ use crate::state::organised_of;
 use crate::state::state_in;
 use bits::reader::Four;
 use bits::reader::take_four;
+use limits::MESSAGE;
 use numbers::Refusal;
 
 // Id, repeat, source and, in messages 1 to 3, status; or why there is no message.
@@ -21,7 +23,7 @@ pub enum Head {
 }
 
 fn head_in(bytes: &[u8]) -> Four
-    requires { ⌜ length (now bytes) ≡ 21 ⌝ }
+    requires { ⌜ length (now bytes) ≡ messageBytes ⌝ }
     ensures { λ r. ⌜ HeadOf (now (bytes .entry)) r ⌝ }
 {
     take_four(bytes, 0, 6, 2, 30, 4)
@@ -31,7 +33,7 @@ fn head_in(bytes: &[u8]) -> Four
 pub fn head_of(bytes: &[u8]) -> Head
     ensures { λ r. ⌜ Heads (now (bytes .entry)) r ⌝ }
 {
-    if bytes.len() != 21 {
+    if bytes.len() != MESSAGE {
         return Head::Refused(Refusal::MessageLength);
     }
     let first = head_in(bytes);
@@ -46,7 +48,7 @@ pub fn head_of(bytes: &[u8]) -> Head
 }
 
 pub fn report_in(bytes: &[u8], head: Four) -> Report
-    requires { ⌜ (length (now bytes) ≡ 21) × HeadOf (now bytes) head ⌝ }
+    requires { ⌜ (length (now bytes) ≡ messageBytes) × HeadOf (now bytes) head ⌝ }
     ensures { λ r. ⌜ r ≡ reportOf (now (bytes .entry)) ⌝ }
 {
     let g = take_four(bytes, 42, 8, 10, 1, 28);
@@ -74,7 +76,7 @@ pub fn report_in(bytes: &[u8], head: Four) -> Report
 }
 
 pub fn base_in(bytes: &[u8]) -> Base
-    requires { ⌜ length (now bytes) ≡ 21 ⌝ }
+    requires { ⌜ length (now bytes) ≡ messageBytes ⌝ }
     ensures { λ r. ⌜ r ≡ baseOf (now (bytes .entry)) ⌝ }
 {
     let f = take_four(bytes, 0, 6, 2, 30, 14);
@@ -104,7 +106,7 @@ pub fn base_in(bytes: &[u8]) -> Base
 
 // A message of another id than 3.
 fn organised(bytes: &[u8], head: Four, state: State) -> Message
-    requires { ⌜ (length (now bytes) ≡ 21) × HeadOf (now bytes) head × StandsIn (now bytes) state ⌝ }
+    requires { ⌜ (length (now bytes) ≡ messageBytes) × HeadOf (now bytes) head × StandsIn (now bytes) state ⌝ }
     ensures { λ r. ⌜ r ≡ organisedMessage (now (bytes .entry)) (head .a) ⌝ }
 {
     let s = organised_of(bytes, state);
@@ -121,7 +123,7 @@ fn organised(bytes: &[u8], head: Four, state: State) -> Message
 
 // The message, by its id. Message 3 alone carries the incremental state.
 pub fn message_in(bytes: &[u8], head: Four) -> Message
-    requires { ⌜ (length (now bytes) ≡ 21) × HeadOf (now bytes) head ⌝ }
+    requires { ⌜ (length (now bytes) ≡ messageBytes) × HeadOf (now bytes) head ⌝ }
     ensures { λ r. ⌜ r ≡ messageOf (now (bytes .entry)) ⌝ }
 {
     let state = state_in(bytes, head.a);

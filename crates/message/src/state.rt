@@ -2,6 +2,7 @@
 ghost use mathlib.Core.Path.{_≡_};
 ghost use Prim.Native.Nat.{_<_};
 ghost use lib.ListN.{length};
+ghost use Rattle.limits.specs.Limits.{messageBytes};
 ghost use Rattle.bits.specs.Field.{fieldOf};
 ghost use Rattle.message.specs.State.{subOf, organisedOf, incrementalOf, stateOf, timeOutOf};
 ghost use Rattle.message.specs.Sheet.{StandsIn, clockValue, valueOf, organisedFour, incrementalFour};
@@ -50,7 +51,7 @@ pub enum State {
 
 // What the last 14 bits, v, say where the time-out is t.
 fn sub_in(bytes: &[u8], t: u32, v: u32) -> SubMessage
-    requires { ⌜ (length (now bytes) ≡ 21) × (t < 8) × (v ≡ fieldOf (now bytes) 154 14) ⌝ }
+    requires { ⌜ (length (now bytes) ≡ messageBytes) × (t < 8) × (v ≡ fieldOf (now bytes) 154 14) ⌝ }
     ensures { λ r. ⌜ r ≡ subOf (now (bytes .entry)) t ⌝ }
 {
     if t == 0 {
@@ -77,7 +78,7 @@ fn sub_in(bytes: &[u8], t: u32, v: u32) -> SubMessage
 }
 
 fn organised_in(bytes: &[u8]) -> SelfOrganised
-    requires { ⌜ length (now bytes) ≡ 21 ⌝ }
+    requires { ⌜ length (now bytes) ≡ messageBytes ⌝ }
     ensures { λ r. ⌜ r ≡ organisedOf (now (bytes .entry)) ⌝ }
 {
     let f = take_four(bytes, 148, 1, 2, 3, 14);
@@ -86,7 +87,7 @@ fn organised_in(bytes: &[u8]) -> SelfOrganised
 }
 
 fn incremental_in(bytes: &[u8]) -> Incremental
-    requires { ⌜ length (now bytes) ≡ 21 ⌝ }
+    requires { ⌜ length (now bytes) ≡ messageBytes ⌝ }
     ensures { λ r. ⌜ r ≡ incrementalOf (now (bytes .entry)) ⌝ }
 {
     let f = take_four(bytes, 149, 2, 13, 3, 1);
@@ -100,7 +101,7 @@ fn incremental_in(bytes: &[u8]) -> Incremental
 
 // The state in the bytes of a message of this id.
 pub fn state_in(bytes: &[u8], id: u32) -> State
-    requires { ⌜ length (now bytes) ≡ 21 ⌝ }
+    requires { ⌜ length (now bytes) ≡ messageBytes ⌝ }
     ensures { λ r. ⌜ r ≡ stateOf (now (bytes .entry)) id ⌝ }
 {
     if id == 3 {
@@ -111,7 +112,7 @@ pub fn state_in(bytes: &[u8], id: u32) -> State
 
 // The self-organised state, where it has been read or not.
 pub fn organised_of(bytes: &[u8], state: State) -> SelfOrganised
-    requires { ⌜ (length (now bytes) ≡ 21) × StandsIn (now bytes) state ⌝ }
+    requires { ⌜ (length (now bytes) ≡ messageBytes) × StandsIn (now bytes) state ⌝ }
     ensures { λ r. ⌜ r ≡ organisedOf (now (bytes .entry)) ⌝ }
 {
     match state {

@@ -5,9 +5,11 @@ ghost use mathlib.Core.Bool.{true};
 ghost use Prim.Native.Nat.{_≤_};
 ghost use lib.ListN.{length};
 ghost use Rattle.laws.specs.Lists.{over};
+ghost use Rattle.laws.specs.Tests.{both};
+ghost use Rattle.limits.specs.Limits.{messageBytes};
 ghost use Rattle.bits.specs.Field.{packed};
 ghost use Rattle.bits.specs.Row.{laid, allFit, layOver};
-ghost use Rattle.message.specs.Sheet.{reportRows, baseRows, sheetOf, reportFields, baseFields, headFields, stateFields, fieldsIn};
+ghost use Rattle.message.specs.Sheet.{reportRows, baseRows, sheetOf, reportParts, baseParts, reportFields, baseFields, EachFits, headFields, stateFields, fieldsIn};
 use crate::Base;
 use crate::Message;
 use crate::Report;
@@ -120,6 +122,16 @@ pub fn sheet_of(message: Message) -> Sheet
     }
 }
 
+// Both, with no way out between them: rows that fit, which are nearly all, are tested whole anyway.
+fn both_fit(a: bool, b: bool) -> bool
+    ensures { λ r. ⌜ r ≡ both a b ⌝ }
+{
+    if a {
+        return b;
+    }
+    false
+}
+
 fn report_fits(x: Rows) -> bool
     ensures { λ r. ⌜ r ≡ allFit (reportFields x) ⌝ }
 {
@@ -127,16 +139,10 @@ fn report_fits(x: Rows) -> bool
     let b = x.b;
     let c = x.c;
     let d = x.d;
-    if !fit_four(a, 6, 2, 30, 4) {
-        return false;
-    }
-    if !fit_four(b, 8, 10, 1, 28) {
-        return false;
-    }
-    if !fit_four(c, 27, 12, 9, 6) {
-        return false;
-    }
-    fit_four(d, 2, 3, 1, 0)
+    both_fit(
+        both_fit(fit_four(a, 6, 2, 30, 4), fit_four(b, 8, 10, 1, 28)),
+        both_fit(fit_four(c, 27, 12, 9, 6), fit_four(d, 2, 3, 1, 0)),
+    )
 }
 
 fn base_fits(x: Rows) -> bool
@@ -146,16 +152,10 @@ fn base_fits(x: Rows) -> bool
     let b = x.b;
     let c = x.c;
     let d = x.d;
-    if !fit_four(a, 6, 2, 30, 14) {
-        return false;
-    }
-    if !fit_four(b, 4, 5, 5, 6) {
-        return false;
-    }
-    if !fit_four(c, 6, 1, 28, 27) {
-        return false;
-    }
-    fit_four(d, 4, 1, 9, 1)
+    both_fit(
+        both_fit(fit_four(a, 6, 2, 30, 14), fit_four(b, 4, 5, 5, 6)),
+        both_fit(fit_four(c, 6, 1, 28, 27), fit_four(d, 4, 1, 9, 1)),
+    )
 }
 
 fn head_fits(x: Rows) -> bool
@@ -181,14 +181,11 @@ fn state_fits(x: Rows) -> bool
 pub fn fits(x: Rows) -> bool
     ensures { λ r. ⌜ r ≡ allFit (fieldsIn x) ⌝ }
 {
-    if !head_fits(x) {
-        return false;
-    }
-    state_fits(x)
+    both_fit(head_fits(x), state_fits(x))
 }
 
 fn put_report(x: Rows, out: &mut [u8])
-    requires { ⌜ (21 ≤ length (now out)) × (allFit (reportFields x) ≡ true) ⌝ }
+    requires { ⌜ (messageBytes ≤ length (now out)) × EachFits (reportParts x) ⌝ }
     ensures { λ _. ⌜ now (out .exit) ≡ layOver (now (out .entry)) 0 (reportFields x) ⌝ }
 {
     let a = x.a;
@@ -202,7 +199,7 @@ fn put_report(x: Rows, out: &mut [u8])
 }
 
 fn put_base(x: Rows, out: &mut [u8])
-    requires { ⌜ (21 ≤ length (now out)) × (allFit (baseFields x) ≡ true) ⌝ }
+    requires { ⌜ (messageBytes ≤ length (now out)) × EachFits (baseParts x) ⌝ }
     ensures { λ _. ⌜ now (out .exit) ≡ layOver (now (out .entry)) 0 (baseFields x) ⌝ }
 {
     let a = x.a;
@@ -216,7 +213,7 @@ fn put_base(x: Rows, out: &mut [u8])
 }
 
 fn put_head(x: Rows, out: &mut [u8])
-    requires { ⌜ (21 ≤ length (now out)) × (allFit (headFields x) ≡ true) ⌝ }
+    requires { ⌜ (messageBytes ≤ length (now out)) × (allFit (headFields x) ≡ true) ⌝ }
     ensures { λ _. ⌜ now (out .exit) ≡ layOver (now (out .entry)) 0 (headFields x) ⌝ }
 {
     if x.base {
@@ -227,7 +224,7 @@ fn put_head(x: Rows, out: &mut [u8])
 }
 
 fn put_state(x: Rows, out: &mut [u8])
-    requires { ⌜ (21 ≤ length (now out)) × (allFit (stateFields x) ≡ true) ⌝ }
+    requires { ⌜ (messageBytes ≤ length (now out)) × (allFit (stateFields x) ≡ true) ⌝ }
     ensures { λ _. ⌜ now (out .exit) ≡ layOver (now (out .entry)) 149 (stateFields x) ⌝ }
 {
     let s = x.state;
@@ -240,8 +237,8 @@ fn put_state(x: Rows, out: &mut [u8])
 
 // Writes the rows into the first 21 bytes.
 pub fn put(x: Rows, out: &mut [u8])
-    requires { ⌜ (21 ≤ length (now out)) × (allFit (fieldsIn x) ≡ true) ⌝ }
-    ensures { λ _. ⌜ now (out .exit) ≡ over (packed 21 (laid (fieldsIn x))) (now (out .entry)) ⌝ }
+    requires { ⌜ (messageBytes ≤ length (now out)) × (allFit (fieldsIn x) ≡ true) ⌝ }
+    ensures { λ _. ⌜ now (out .exit) ≡ over (packed messageBytes (laid (fieldsIn x))) (now (out .entry)) ⌝ }
 {
     put_head(x, out);
     put_state(x, out);

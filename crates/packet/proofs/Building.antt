@@ -8,6 +8,7 @@ use lib.ListN.{length, take, drop, length-append, length-drop, take-append-drop}
 use lib.Seq.{sets, length-sets, take-all, drop-drop}
 use Rattle.laws.specs.Lists.{over}
 use Rattle.laws.proofs.Lists.{done, sets-append, stored-over}
+use Rattle.limits.specs.Limits.{payloadBytes, mostPacket}
 use Rattle.bits.specs.Bits.{lowFirst, highFirst, sentBits, eightOf}
 use Rattle.bits.proofs.Bits.{length-highFirst}
 use Rattle.bits.proofs.Bytes.{sentBits-end, sent-append, length-sent}
@@ -38,7 +39,7 @@ pub length-packet : (p : List ℕ) → length (packetOf p) ≡ 8 + length (stuff
 unfolding packetOf
 length-packet p = simp length-append (omega (arith, length-flag))
 
-pub packet-short : (p : List ℕ) → length p ≤ 21 → length (packetOf p) ≤ 236
+pub packet-short : (p : List ℕ) → length p ≤ payloadBytes → length (packetOf p) ≤ mostPacket
 packet-short p h = omega (arith, length-packet p, stuffed-bound 4 (frameOf p) (omega arith), length-frame p)
 
 -- ---- bytes on their way
@@ -125,7 +126,7 @@ sent-first out e l long = sent-on (sent-none out e) l long
 pub record Whole (p out : List ℕ) (s : Sending) (now : List ℕ) : Type 0 where
   pub long : s .at + 8 ≡ length (packetOf p)
   pub room : s .at + 8 ≤ length now
-  pub fits : s .at + 8 ≤ 236
+  pub fits : s .at + 8 ≤ mostPacket
   pub built : (last : List ℕ) → last ≡ sets now (s .at) flag → last ≡ over (packetOf p) out
 
 start-is : (bits : List ℕ) → toCome 0 bits ≡ stuffed 4 bits ++ flag
@@ -139,7 +140,7 @@ toCome-none tail = ap (_++ flag) (stuffed-end (leftOf tail))
 whole-is : (p : List ℕ) → 8 + length (toCome 0 (frameOf p)) ≡ length (packetOf p)
 whole-is p = omega (arith, ap length (start-is (frameOf p)), length-append (stuffed 4 (frameOf p)) flag, length-flag, length-packet p)
 
-module _ (p : List ℕ) {out : List ℕ} (short : length p ≤ 21) (room : 236 ≤ length out) where
+module _ (p : List ℕ) {out : List ℕ} (short : length p ≤ payloadBytes) (room : mostPacket ≤ length out) where
   -- there is room for what comes next of the frame
   next-room : (bits next rest : List ℕ) {now : List ℕ} {s : Sending} → bits ++ next ++ rest ≡ frameOf p → Sent out bits s now → s .at + length (toCome (s .tail) next) ≤ length now
   next-room bits next rest e a =

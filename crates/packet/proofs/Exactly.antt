@@ -1,37 +1,58 @@
--- "Given exactly when", for each number of writing and reading, and what success says.
+-- "Given exactly when", for each number of writing and reading, and what an accepted packet has passed.
 -- Assumes nothing.
-use mathlib.Core.Path.{refl}
-use mathlib.Core.List.{List}
-use Prim.Native.Nat.{ℕ}
-use native.Mathlib.Omega.{arith}
+use mathlib.Core.Path.{_≡_, refl, ap}
+use mathlib.Core.Bool.{true}
+use mathlib.Core.List.{List, [], _∷_}
+use Prim.Native.Nat.{ℕ, _≤_}
+use borrow.Author.Tests.{leb-true}
+use lib.Dec.{leb}
 use lib.ListN.{length}
-use Rattle.laws.proofs.Ladder.{exactly, passed}
-use Rattle.packet.specs.Packet.{packetOf, writtenNumber, receivedNumber, writeTests, writeAnswer, bodyOf, frameIn, readTests, readAnswer, payloadLength}
+use Rattle.laws.specs.Tests.{between}
+use Rattle.laws.proofs.Tests.{between-is}
+use Rattle.laws.proofs.Ladder.{by-tests}
+use Rattle.limits.specs.Limits.{payloadBytes, leastPacket, mostPacket}
+use Rattle.bits.specs.Bits.{allBits}
+use Rattle.stuffing.specs.Stuff.{legal}
+use Rattle.packet.specs.Packet.{packetOf, writtenNumber, receivedNumber, writeTests, writeAnswer, flagged, bodyOf, frameIn, wholeBytes, checked, frameTests, bodyTests, readTests, readAnswer, payloadLength}
 use Rattle.packet.specs.Promises.{WriteExactly, ReadExactly}
-use Rattle.packet.specs.declared.Written.the-variants.{Bits}
-use Rattle.packet.specs.declared.Received.the-variants.{Bytes}
+use Rattle.packet.specs.declared.Packed.the-variants.{Bits}
+use Rattle.packet.specs.declared.Unpacked.the-variants.{Bytes}
 
-pub write-exactly : (p : List ℕ) (room : ℕ) → WriteExactly p room
-unfolding writeAnswer
-write-exactly p room =
-    let x = Bits (length (packetOf p)) in
-    record {
-      given-11 = exactly writtenNumber 11 0 (writeTests p room) x tt (λ e. omega arith);
-      given-12 = exactly writtenNumber 12 1 (writeTests p room) x tt (λ e. omega arith);
-      given-0 = passed writtenNumber 0 (writeTests p room) x tt refl;
-    }
+pub write-exactly : WriteExactly
+unfolding writeTests writeAnswer
+write-exactly p room = by-tests (11 ∷ 12 ∷ []) writtenNumber (writeTests p room) (Bits (length (packetOf p))) refl tt refl
 
-pub read-exactly : (xs : List ℕ) (room : ℕ) → ReadExactly xs room
-unfolding readAnswer
+pub read-exactly : ReadExactly
+unfolding frameTests bodyTests readTests readAnswer
 read-exactly xs room =
-    let x = Bytes (payloadLength (frameIn (bodyOf xs))) in
-    record {
-      given-11 = exactly receivedNumber 11 0 (readTests xs room) x tt (λ e. omega arith);
-      given-12 = exactly receivedNumber 12 1 (readTests xs room) x tt (λ e. omega arith);
-      given-10 = exactly receivedNumber 10 2 (readTests xs room) x tt (λ e. omega arith);
-      given-13 = exactly receivedNumber 13 3 (readTests xs room) x tt (λ e. omega arith);
-      given-14 = exactly receivedNumber 14 4 (readTests xs room) x tt (λ e. omega arith);
-      given-15 = exactly receivedNumber 15 5 (readTests xs room) x tt (λ e. omega arith);
-      given-16 = exactly receivedNumber 16 6 (readTests xs room) x tt (λ e. omega arith);
-      given-0 = passed receivedNumber 0 (readTests xs room) x tt refl;
-    }
+    by-tests (11 ∷ 12 ∷ 10 ∷ 13 ∷ 14 ∷ 15 ∷ 16 ∷ []) receivedNumber (readTests xs room) (Bytes (payloadLength (frameIn (bodyOf xs)))) refl tt refl
+
+-- what bits have passed that were read
+pub record Passed (xs : List ℕ) (room : ℕ) : Type 0 where
+  pub long : between leastPacket mostPacket (length xs) ≡ true
+  pub lent : leb payloadBytes room ≡ true
+  pub bits : allBits xs ≡ true
+  pub flags : flagged xs ≡ true
+  pub stuffing : legal 5 (bodyOf xs) ≡ true
+  pub whole : wholeBytes (frameIn (bodyOf xs)) ≡ true
+  pub check : checked (frameIn (bodyOf xs)) ≡ true
+
+pub passed : (xs : List ℕ) (room n : ℕ) → readAnswer xs room ≡ Bytes n → Passed xs room
+unfolding frameTests bodyTests readTests
+passed xs room n e =
+    let t = read-exactly xs room .none .0 (ap receivedNumber e) in
+    let body = t .1 .1 .1 .1 in
+    record { long = t .0; lent = t .1 .0; bits = t .1 .1 .0; flags = t .1 .1 .1 .0; stuffing = body .0; whole = body .1 .0; check = body .1 .1 }
+
+-- what a payload has passed that was written
+pub record Sendable (p : List ℕ) (room : ℕ) : Type 0 where
+  pub some : 1 ≤ length p
+  pub few : length p ≤ payloadBytes
+  pub lent : mostPacket ≤ room
+
+pub sendable : (p : List ℕ) (room n : ℕ) → writeAnswer p room ≡ Bits n → Sendable p room
+unfolding writeTests
+sendable p room n e =
+    let t = write-exactly p room .none .0 (ap writtenNumber e) in
+    let l = between-is 1 payloadBytes (length p) (t .0) in
+    record { some = l .0; few = l .1; lent = leb-true mostPacket room (t .1) }

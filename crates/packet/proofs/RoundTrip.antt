@@ -14,19 +14,20 @@ use Rattle.laws.specs.Lists.{over, same, AllBytes}
 use Rattle.laws.proofs.Tests.{both-left, both-right, between-is}
 use Rattle.laws.proofs.Lists.{same→eq, same-refl}
 use Rattle.laws.proofs.Unique.{unique}
+use Rattle.limits.specs.Limits.{payloadBytes, leastChecked, mostChecked, leastPacket, mostPacket}
 use Rattle.bits.specs.Bits.{allBits, highFirst, sentBits, bytesOf}
 use Rattle.bits.proofs.Bits.{allBits-more, allBits-append, allBits-take, allBits-drop, bit-head, bit-tail, high-bits}
 use Rattle.bits.proofs.Bytes.{sent-bits, length-sent, length-bytesOf, bytes-back, sent-back}
 use Rattle.checking.specs.Check.{checkOf}
 use Rattle.stuffing.specs.Stuff.{flag, stuffed, legal, unstuffed}
-use Rattle.packet.specs.Packet.{frameOf, packetOf, writtenNumber, writeAnswer, writeOut, receivedNumber, bodyOf, flagged, frameIn, wholeBytes, checked, payloadLength, frameAnswer, bodyAnswer, readAnswer, readOut}
+use Rattle.packet.specs.Packet.{frameOf, packetOf, writeAnswer, writeOut, bodyOf, flagged, frameIn, wholeBytes, checked, payloadLength, frameAnswer, bodyAnswer, readAnswer, readOut}
 use Rattle.packet.specs.Promises.{ReadAfterWrite, WriteAfterRead, WriteOnce, ReadOnce}
-use Rattle.packet.specs.declared.Written.the-variants.{Bits}
-use Rattle.packet.specs.declared.Received.the-variants.{Bytes}
+use Rattle.packet.specs.declared.Packed.the-variants.{Bits}
+use Rattle.packet.specs.declared.Unpacked.the-variants.{Bytes}
 use Rattle.stuffing.proofs.Stuffing.{stuffed-least, legal-stuffed, unstuffed-stuffed, stuffed-unstuffed, unstuffed-bits}
 use Rattle.packet.proofs.Building.{length-flag, length-frame, length-packet, packet-short}
 use Rattle.packet.proofs.Answers.{write-good, whole, check-good, stuffing-good, read-body}
-use Rattle.packet.proofs.Exactly.{write-exactly, read-exactly}
+use Rattle.packet.proofs.Exactly.{passed, sendable}
 
 -- ---- bits of what is written
 
@@ -87,7 +88,7 @@ come-off : (k : ℕ) (bs : List ℕ) → unstuffed (suc k) (stuffed k bs) ≡ bs
 unfolding unstuffed
 come-off k bs = ap (unstuffed (suc k)) (sym (append-nil (stuffed k bs))) ∙ unstuffed-stuffed k bs [] ∙ append-nil bs
 
-module _ (p : List ℕ) (some : 1 ≤ length p) (short : length p ≤ 21) where
+module _ (p : List ℕ) (some : 1 ≤ length p) (short : length p ≤ payloadBytes) where
   frame-answer : Bytes (length p) ≡ frameAnswer (frameOf p)
   frame-answer =
       let l = length-frame p in
@@ -98,7 +99,7 @@ module _ (p : List ℕ) (some : 1 ≤ length p) (short : length p ≤ 21) where
   unfolding frameIn
   frame-back = ap (unstuffed 5) (body-is p) ∙ come-off 4 (frameOf p)
 
-  written-read : (room : ℕ) → 21 ≤ room → readAnswer (packetOf p) room ≡ Bytes (length p)
+  written-read : (room : ℕ) → payloadBytes ≤ room → readAnswer (packetOf p) room ≡ Bytes (length p)
   written-read room h =
       let l = length-packet p in
       let body : bodyAnswer (bodyOf (packetOf p)) ≡ frameAnswer (frameOf p) =
@@ -112,11 +113,11 @@ module _ (p : List ℕ) (some : 1 ≤ length p) (short : length p ≤ 21) where
 -- ---- writing what was read
 
 module _ (f : List ℕ) (n : ℕ) (bits : allBits f ≡ true) (whole : wholeBytes f ≡ true) (good : checked f ≡ true) (count : payloadLength f ≡ n) where
-  frame-long : (length f ≡ 8 * n + 16) × (1 ≤ n) × (n ≤ 21)
+  frame-long : (length f ≡ 8 * n + 16) × (1 ≤ n) × (n ≤ payloadBytes)
   unfolding wholeBytes
   frame-long =
-      let m = eqb-true (length f % 8) 0 (both-left (eqb (length f % 8) 0) (between 24 184 (length f)) whole) in
-      let b = between-is 24 184 (length f) (both-right (eqb (length f % 8) 0) (between 24 184 (length f)) whole) in
+      let m = eqb-true (length f % 8) 0 (both-left (eqb (length f % 8) 0) (between leastChecked mostChecked (length f)) whole) in
+      let b = between-is leastChecked mostChecked (length f) (both-right (eqb (length f % 8) 0) (between leastChecked mostChecked (length f)) whole) in
       (omega arith, omega arith, omega arith)
 
   frame-again : frameOf (bytesOf n f) ≡ f
@@ -129,7 +130,7 @@ module _ (f : List ℕ) (n : ℕ) (bits : allBits f ≡ true) (whole : wholeByte
       let c′ : drop (8 * n) f ≡ highFirst 16 (checkOf (take (8 * n) f)) = rw k at c in
       rw (s, ← c′) (take-append-drop (8 * n) f)
 
-module _ (xs : List ℕ) (long : between 40 236 (length xs) ≡ true) (bits : allBits xs ≡ true) (flags : flagged xs ≡ true) where
+module _ (xs : List ℕ) (long : between leastPacket mostPacket (length xs) ≡ true) (bits : allBits xs ≡ true) (flags : flagged xs ≡ true) where
   frame-all-bits : allBits (frameIn (bodyOf xs)) ≡ true
   unfolding frameIn bodyOf
   frame-all-bits = unstuffed-bits 5 (bodyOf xs) (allBits-take (length xs - 8 - 8) (drop 8 xs) (allBits-drop 8 xs bits))
@@ -137,7 +138,7 @@ module _ (xs : List ℕ) (long : between 40 236 (length xs) ≡ true) (bits : al
   parts : xs ≡ flag ++ bodyOf xs ++ flag
   unfolding flagged bodyOf
   parts =
-      let l = between-is 40 236 (length xs) long in
+      let l = between-is leastPacket mostPacket (length xs) long in
       let a = same→eq (take 8 xs) flag (both-left (same (take 8 xs) flag) (same (drop (length xs - 8) xs) flag) (flags)) in
       let b = same→eq (drop (length xs - 8) xs) flag (both-right (same (take 8 xs) flag) (same (drop (length xs - 8) xs) flag) (flags)) in
       let k : 8 + (length xs - 8 - 8) ≡ length xs - 8 = omega arith in
@@ -150,28 +151,28 @@ module _ (xs : List ℕ) (long : between 40 236 (length xs) ≡ true) (bits : al
 pub read-after-write : ReadAfterWrite
 unfolding readOut
 read-after-write p room n bytes e out h =
-    let w = write-exactly p room .given-0 .0 (ap writtenNumber e) in
-    let l = between-is 1 21 (length p) (w .0) in
-    (sym (written-read p (l .0) (l .1) (length out) h), ap (λ (t : List ℕ). over t out) (sym (payload-back p (l .0) (l .1) bytes)))
+    let w = sendable p room n e in
+    (sym (written-read p (w .some) (w .few) (length out) h), ap (λ (t : List ℕ). over t out) (sym (payload-back p (w .some) (w .few) bytes)))
 
 -- the tests that an accepted packet passed, and how many bytes it gave
 accepted : (xs : List ℕ) (room n : ℕ) → readAnswer xs room ≡ Bytes n → payloadLength (frameIn (bodyOf xs)) ≡ n
 accepted xs room n e =
-    let t = read-exactly xs room .given-0 .0 (ap receivedNumber e) in
-    let r = check-good _ (t .1 .1 .1 .1 .1 .0) (t .1 .1 .1 .1 .1 .1) ∙ stuffing-good _ (t .1 .1 .1 .1 .0) ∙ read-body xs room (between-is 40 236 (length xs) (t .0) .0) (between-is 40 236 (length xs) (t .0) .1) (leb-true 21 room (t .1 .0)) (t .1 .1 .0) (t .1 .1 .1 .0) ∙ e in
+    let t = passed xs room n e in
+    let l = between-is leastPacket mostPacket (length xs) (t .long) in
+    let r = check-good _ (t .whole) (t .check) ∙ stuffing-good _ (t .stuffing) ∙ read-body xs room (l .0) (l .1) (leb-true payloadBytes room (t .lent)) (t .bits) (t .flags) ∙ e in
     cc
 
 module _ (xs : List ℕ) (room n : ℕ) (e : readAnswer xs room ≡ Bytes n) where
-  again : (packetOf (bytesOf n (frameIn (bodyOf xs))) ≡ xs) × (1 ≤ n) × (n ≤ 21)
+  again : (packetOf (bytesOf n (frameIn (bodyOf xs))) ≡ xs) × (1 ≤ n) × (n ≤ payloadBytes)
   unfolding packetOf frameIn
   again =
-      let t = read-exactly xs room .given-0 .0 (ap receivedNumber e) in
-      let b = frame-all-bits xs (t .0) (t .1 .1 .0) (t .1 .1 .1 .0) in
+      let t = passed xs room n e in
+      let b = frame-all-bits xs (t .long) (t .bits) (t .flags) in
       let k = accepted xs room n e in
-      let f = frame-again (frameIn (bodyOf xs)) n b (t .1 .1 .1 .1 .1 .0) (t .1 .1 .1 .1 .1 .1) k in
-      let s = stuffed-unstuffed 4 (bodyOf xs) (t .1 .1 .1 .1 .0) in
-      let l = frame-long (frameIn (bodyOf xs)) n b (t .1 .1 .1 .1 .1 .0) (t .1 .1 .1 .1 .1 .1) k in (
-        ap (λ (u : List ℕ). flag ++ stuffed 4 u ++ flag) f ∙ ap (λ (u : List ℕ). flag ++ u ++ flag) s ∙ sym (parts xs (t .0) (t .1 .1 .0) (t .1 .1 .1 .0)),
+      let f = frame-again (frameIn (bodyOf xs)) n b (t .whole) (t .check) k in
+      let s = stuffed-unstuffed 4 (bodyOf xs) (t .stuffing) in
+      let l = frame-long (frameIn (bodyOf xs)) n b (t .whole) (t .check) k in (
+        ap (λ (u : List ℕ). flag ++ stuffed 4 u ++ flag) f ∙ ap (λ (u : List ℕ). flag ++ u ++ flag) s ∙ sym (parts xs (t .long) (t .bits) (t .flags)),
         l .1,
         l .2,
       )
@@ -191,13 +192,12 @@ pub read-once : ReadOnce
 read-once xs out r r′ o o′ h k = unique (λ a. readOut a (frameIn (bodyOf xs)) out) h k
 
 -- how many bits and bytes a count can be
-pub written-few : (p : List ℕ) (room n : ℕ) → writeAnswer p room ≡ Bits n → n ≤ 236
+pub written-few : (p : List ℕ) (room n : ℕ) → writeAnswer p room ≡ Bits n → n ≤ mostPacket
 written-few p room n e =
-    let w = write-exactly p room .given-0 .0 (ap writtenNumber e) in
-    let l = between-is 1 21 (length p) (w .0) in
-    let g = write-good p room (l .0) (l .1) (leb-true 236 room (w .1)) ∙ e in
+    let w = sendable p room n e in
+    let g = write-good p room (w .some) (w .few) (w .lent) ∙ e in
     let s : length (packetOf p) ≡ n = cc in
-    omega (arith, packet-short p (l .1))
+    omega (arith, packet-short p (w .few))
 
-pub received-few : (xs : List ℕ) (room n : ℕ) → readAnswer xs room ≡ Bytes n → n ≤ 21
+pub received-few : (xs : List ℕ) (room n : ℕ) → readAnswer xs room ≡ Bytes n → n ≤ payloadBytes
 received-few xs room n e = again xs room n e .2

@@ -13,6 +13,7 @@ use lib.Seq.{drop-drop, take-add, take-at, take-take, length-take-le}
 use Rattle.laws.specs.Tests.{pick}
 use Rattle.laws.proofs.Tests.{is-true}
 use Rattle.laws.proofs.Table.{allBelow, below}
+use Rattle.limits.specs.Limits.{mostBody, leastPacket, mostPacket}
 use Rattle.bits.specs.Bits.{lowFirst, lowValue, allBits, sentBits}
 use Rattle.bits.proofs.Bits.{allBits-take, allBits-drop, bits-back, length-lowFirst, low-append}
 use Rattle.bits.proofs.Bytes.{sentBits-end}
@@ -105,7 +106,7 @@ five-left = refl
 pub sound-first : {raw : List ℕ} {s : Taking} → s .tail ≡ 0 → s .part ≡ 0 → s .have < 32 → s .count ≡ 0 → Sound s raw
 sound-first {raw} {s} et ep few ec = record { five = omega (arith, et); under = few; small = omega (arith, ep, some (s .have)); fits = omega (arith, ec) }
 
-pub took-all : {body raw₀ raw : List ℕ} {s₀ s : Taking} (over : ℕ) → over < 32 → s₀ .tail ≡ 0 → s₀ .spoilt ≡ false → s₀ .part ≡ 0 → s₀ .have ≡ over → s₀ .count ≡ 0 → length body ≤ 220
+pub took-all : {body raw₀ raw : List ℕ} {s₀ s : Taking} (over : ℕ) → over < 32 → s₀ .tail ≡ 0 → s₀ .spoilt ≡ false → s₀ .part ≡ 0 → s₀ .have ≡ over → s₀ .count ≡ 0 → length body ≤ mostBody
     → Took (zeros (32 - over) ++ body) s₀ raw₀ s raw → Unstuffed body s raw
 unfolding pending lawful
 took-all {body} {raw₀} {raw} {s₀} {s} over few et es ep eh ec short t =
@@ -128,7 +129,7 @@ took-all {body} {raw₀} {raw} {s₀} {s} over few et es ep eh ec short t =
 
 -- ---- the body in its two parts
 
-pub body-parts : (bits : List ℕ) (over : ℕ) → over < 32 → 40 ≤ length bits → (length bits - 16) % 32 ≡ over
+pub body-parts : (bits : List ℕ) (over : ℕ) → over < 32 → leastPacket ≤ length bits → (length bits - 16) % 32 ≡ over
     → (zeros (32 - over) ++ take over (drop 8 bits)) ++ take (length bits - 8 - (8 + over)) (drop (8 + over) bits) ≡ zeros (32 - over) ++ bodyOf bits
 unfolding bodyOf
 body-parts bits over few long e =
@@ -139,6 +140,6 @@ body-parts bits over few long e =
     ∙ sym (take-add over (n - 8 - (8 + over)) (drop 8 bits)) ∙ ap (λ (m : ℕ). take m (drop 8 bits)) a in
     append-assoc (zeros (32 - over)) (take over (drop 8 bits)) (take (n - 8 - (8 + over)) (drop (8 + over) bits)) ∙ ap (zeros (32 - over) ++_) c
 
-pub body-short : (bits : List ℕ) → length bits ≤ 236 → length (bodyOf bits) ≤ 220
+pub body-short : (bits : List ℕ) → length bits ≤ mostPacket → length (bodyOf bits) ≤ mostBody
 unfolding bodyOf
 body-short bits h = omega (arith, length-take (length bits - 8 - 8) (drop 8 bits))

@@ -3,7 +3,7 @@
 use mathlib.Core.Path.{_≡_, refl, sym, ap, ap₂, _∙_}
 use mathlib.Core.Bool.{Bool, true, false}
 use mathlib.Core.List.{List, [], _∷_, _++_, append-nil}
-use Prim.Native.Nat.{ℕ, _+_, _-_, _*_, _≤_, _<_}
+use Prim.Native.Nat.{ℕ, _+_, _-_, _*_, _/_, _≤_, _<_}
 use native.Mathlib.Omega.{arith}
 use borrow.Author.Tests.{eq-eqb, eqb-true}
 use lib.Dec.{eqb}
@@ -11,6 +11,7 @@ use lib.ListN.{length, getD, take, drop, take-append-drop, length-drop}
 use lib.Seq.{take-at, drop-at, drop-drop, take-all, getD-drop, length-take-le}
 use Rattle.laws.specs.Lists.{over, same}
 use Rattle.laws.proofs.Lists.{next, done, all-bytes, take-bytes, same→eq, same-refl}
+use Rattle.limits.specs.Limits.{leastChecked, mostChecked, leastPacket}
 use Rattle.bits.specs.Bits.{lowFirst, highFirst, lowValue, joined, eights, allBits, sentBits, bytesOf}
 use Rattle.bits.proofs.Bits.{allBits-take, allBits-drop, bits-back, value-back, low-append}
 use Rattle.bits.proofs.Bytes.{sentBits-more, sentBits-end, sent-append, length-sent, bytes-back}
@@ -45,7 +46,7 @@ flag-told eight {v} l bits e =
     (λ h. e ∙ ap lowValue h ∙ flag-value)
 
 -- the flags of a packet, as the code looks at them
-module _ (xs : List ℕ) {v : ℕ} (bits : allBits xs ≡ true) (long : 40 ≤ length xs) where
+module _ (xs : List ℕ) {v : ℕ} (bits : allBits xs ≡ true) (long : leastPacket ≤ length xs) where
   pub first-flag : v ≡ lowValue (take 8 xs) → eqb v 126 ≡ same (take 8 xs) flag
   first-flag e = flag-told (take 8 xs) (length-take-le 8 xs (omega arith)) (allBits-take 8 xs bits) e
 
@@ -93,7 +94,7 @@ module _ (raw : List ℕ) (n : ℕ) (long : length raw ≡ n + 6) (bytes : (i : 
   pub payload-count : payloadLength (sentBits (drop 4 raw)) ≡ n
   payload-count = omega (arith, frame-long)
 
-  pub frame-whole : 7 ≤ length raw → length raw ≤ 27 → wholeBytes (sentBits (drop 4 raw)) ≡ true
+  pub frame-whole : 4 + leastChecked / 8 ≤ length raw → length raw ≤ 4 + mostChecked / 8 → wholeBytes (sentBits (drop 4 raw)) ≡ true
   frame-whole h k = let l = frame-long in whole (sentBits (drop 4 raw)) (omega arith) (omega arith) (omega arith)
 
   pub frame-checked : {r t : ℕ} → t ≡ getD raw (4 + n) 0 + getD raw (4 + n + 1) 0 * 256 → r < 65536 → mirrored r ≡ through 0xffff (sentBits (take n (drop 4 raw)))

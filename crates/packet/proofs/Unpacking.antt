@@ -8,6 +8,7 @@ use native.Mathlib.Omega.{arith}
 use borrow.Author.Tests.{eq-eqb, ne-eqb}
 use lib.ListN.{length, take, drop, length-append, take-append-drop}
 use lib.Seq.{sets, length-sets, take-at, drop-at, length-take-le}
+use Rattle.limits.specs.Limits.{leastChecked, mostChecked}
 use Rattle.numbers.specs.declared.Refusal.the-variants.{BadStuffing, NotWhole}
 use Rattle.bits.specs.Bits.{lowFirst, sentBits, eightOf}
 use Rattle.bits.proofs.Bits.{length-lowFirst}
@@ -15,8 +16,8 @@ use Rattle.bits.proofs.Bytes.{length-sent, sent-append}
 use Rattle.checking.specs.Check.{zeros}
 use Rattle.stuffing.specs.Stuff.{legal, unstuffed}
 use Rattle.packet.specs.Packet.{frameIn, frameAnswer, bodyAnswer}
-use Rattle.packet.specs.Reading.{Unstuffed}
-use Rattle.packet.specs.declared.Received.the-variants.{Refused}
+use Rattle.packet.specs.Reading.{rawBytes, Unstuffed}
+use Rattle.packet.specs.declared.Unpacked.the-variants.{Refused}
 use Rattle.stuffing.specs.declared.unstuff.Taking.{Taking}
 use Rattle.checking.proofs.Zeros.{length-zeros}
 use Rattle.packet.proofs.Answers.{stuffing-bad, stuffing-good, count-odd, count-low, count-high, count-bad}
@@ -57,16 +58,16 @@ module _ {body raw : List ℕ} {s : Taking} (u : Unstuffed body s raw) where
       over-bad h = not-whole (count-bad _ (count-odd (unstuffed 5 body) (λ z. h (omega (arith, size)))))
 
       module _ (none : s .have % 8 ≡ 0) where
-        pub few-bad : s .count + s .have / 8 < 7 → Refused NotWhole ≡ bodyAnswer body
+        pub few-bad : s .count + s .have / 8 < 4 + leastChecked / 8 → Refused NotWhole ≡ bodyAnswer body
         unfolding frameIn
         few-bad h = not-whole (count-bad _ (count-low (unstuffed 5 body) (omega (arith, size))))
 
-        pub many-bad : 27 < s .count + s .have / 8 → Refused NotWhole ≡ bodyAnswer body
+        pub many-bad : 4 + mostChecked / 8 < s .count + s .have / 8 → Refused NotWhole ≡ bodyAnswer body
         unfolding frameIn
         many-bad h = not-whole (count-bad _ (count-high (unstuffed 5 body) (omega (arith, size))))
 
         -- the last bytes stored, and all of them taken
-        module _ {raw′ : List ℕ} {n : ℕ} (long : length raw ≡ 40) (en : n ≡ s .count + s .have / 8) (enough : 7 ≤ n) (is : raw′ ≡ sets raw (s .count) (eightOf (s .part))) where
+        module _ {raw′ : List ℕ} {n : ℕ} (long : length raw ≡ rawBytes) (en : n ≡ s .count + s .have / 8) (enough : 4 + leastChecked / 8 ≤ n) (is : raw′ ≡ sets raw (s .count) (eightOf (s .part))) where
           pub frame-long : length (take n raw′) ≡ n
           frame-long = length-take-le n raw′ (omega (arith, u .room, ap length is, length-sets raw (s .count) (eightOf (s .part))))
 

@@ -2,25 +2,36 @@
 ghost use mathlib.Core.Path.{_≡_};
 ghost use mathlib.Core.Bool.{true};
 ghost use mathlib.Core.List.{_++_};
-ghost use Prim.Native.Nat.{_+_, _-_, _*_, _%_, _^_, _≤_, _<_};
+ghost use Prim.Native.Nat.{_+_, _-_, _*_, _/_, _%_, _^_, _≤_, _<_};
 ghost use lib.ListN.{length, take, drop};
+ghost use Rattle.limits.specs.Limits.{payloadBytes, leastChecked, mostChecked, leastPacket, mostPacket};
 ghost use Rattle.bits.specs.Bits.{lowFirst, sentBits, allBits};
 ghost use Rattle.checking.specs.Check.{zeros};
 ghost use Rattle.packet.specs.Packet.{bodyOf, frameIn, frameAnswer, bodyAnswer, readOut};
 ghost use Rattle.stuffing.specs.Taking.{Sound, Took};
-ghost use Rattle.packet.specs.Reading.{Unstuffed};
-use crate::Received;
+ghost use Rattle.packet.specs.Reading.{rawBytes, Unstuffed};
+use crate::Unpacked;
 use bits::store_eight;
 use bits::word_at;
 use bytes::copy;
 use checking::register_after;
+use limits::LEAST_CHECKED;
+use limits::MOST_BODY;
+use limits::MOST_CHECKED;
 use numbers::Refusal;
 use stuffing::unstuff::Taking;
 use stuffing::unstuff::take_word;
 
+// What is read goes behind four bytes of zeros, eight bytes at a time: the bytes that this may touch, and how many there are in the end.
+const RAW: usize = (MOST_BODY + 32) / 8 + 8;
+
+const LEAST_RAW: usize = 4 + LEAST_CHECKED / 8;
+
+const MOST_RAW: usize = 4 + MOST_CHECKED / 8;
+
 // The first bits of the body, as many as are more than whole words, as the last ones of a word whose others are 0.
 fn first_word(bits: &[u8], over: usize) -> u64
-    requires { ⌜ (allBits (now bits) ≡ true) × (over < 32) × (40 ≤ length (now bits)) ⌝ }
+    requires { ⌜ (allBits (now bits) ≡ true) × (over < 32) × (leastPacket ≤ length (now bits)) ⌝ }
     ensures { λ r. ⌜ (lowFirst 32 r ≡ zeros (32 - over) ++ take over (drop 8 (now (bits .entry)))) × (r < 2 ^ 32) ⌝ }
 {
     (word_at(bits, 8) << (32 - over)) % 0x100000000
@@ -42,7 +53,7 @@ fn take_all(part: &[u8], raw: &mut [u8], from: Taking) -> Taking
 
 // All bits between the flags. What is over goes first, so that from then on 32 bits make four bytes; the first four bytes are zeros.
 fn unstuff(bits: &[u8], raw: &mut [u8]) -> Taking
-    requires { ⌜ (allBits (now bits) ≡ true) × (40 ≤ length (now bits)) × (length (now bits) ≤ 236) × (length (now raw) ≡ 40) ⌝ }
+    requires { ⌜ (allBits (now bits) ≡ true) × (leastPacket ≤ length (now bits)) × (length (now bits) ≤ mostPacket) × (length (now raw) ≡ rawBytes) ⌝ }
     ensures { λ r. ⌜ Unstuffed (bodyOf (now (bits .entry))) r (now (raw .exit)) ⌝ }
 {
     let n = bits.len();
@@ -68,42 +79,42 @@ fn told(first: u8, second: u8) -> u16
 }
 
 // The payload of whole bytes, payload and check, behind four zeros: 16.
-fn unframe(raw: &[u8], out: &mut [u8]) -> Received
-    requires { ⌜ (sentBits (take 4 (now raw)) ≡ zeros 32) × (7 ≤ length (now raw)) × (length (now raw) ≤ 27) × (21 ≤ length (now out)) ⌝ }
+fn unframe(raw: &[u8], out: &mut [u8]) -> Unpacked
+    requires { ⌜ (sentBits (take 4 (now raw)) ≡ zeros 32) × (4 + leastChecked / 8 ≤ length (now raw)) × (length (now raw) ≤ 4 + mostChecked / 8) × (payloadBytes ≤ length (now out)) ⌝ }
     ensures { λ r. ⌜ (r ≡ frameAnswer (sentBits (drop 4 (now (raw .entry))))) × (now (out .exit) ≡ readOut r (sentBits (drop 4 (now (raw .entry)))) (now (out .entry))) ⌝ }
 {
     let n = raw.len() - 6;
     let end = 4 + n;
     let sent = told(raw[end], raw[end + 1]);
     if 0xffff - register_after(raw, n) == sent {
-        return Received::Bytes(copy(&raw[4..end], out));
+        return Unpacked::Bytes(copy(&raw[4..end], out));
     }
-    Received::Refused(Refusal::BadCheck)
+    Unpacked::Refused(Refusal::BadCheck)
 }
 
 // The payload of a packet of bits between flags: 14, 15, 16.
-pub fn unpack(bits: &[u8], out: &mut [u8]) -> Received
-    requires { ⌜ (allBits (now bits) ≡ true) × (40 ≤ length (now bits)) × (length (now bits) ≤ 236) × (21 ≤ length (now out)) ⌝ }
+pub fn unpack(bits: &[u8], out: &mut [u8]) -> Unpacked
+    requires { ⌜ (allBits (now bits) ≡ true) × (leastPacket ≤ length (now bits)) × (length (now bits) ≤ mostPacket) × (payloadBytes ≤ length (now out)) ⌝ }
     ensures { λ r. ⌜ (r ≡ bodyAnswer (bodyOf (now (bits .entry)))) × (now (out .exit) ≡ readOut r (frameIn (bodyOf (now (bits .entry)))) (now (out .entry))) ⌝ }
 {
-    let mut raw = [0u8; 40];
+    let mut raw = [0u8; RAW];
     let end = unstuff(bits, &mut raw);
     if end.spoilt {
-        return Received::Refused(Refusal::BadStuffing);
+        return Unpacked::Refused(Refusal::BadStuffing);
     }
     if end.tail == 31 {
-        return Received::Refused(Refusal::BadStuffing);
+        return Unpacked::Refused(Refusal::BadStuffing);
     }
     if end.have % 8 != 0 {
-        return Received::Refused(Refusal::NotWhole);
+        return Unpacked::Refused(Refusal::NotWhole);
     }
     let count = end.count;
     let n = count + (end.have / 8) as usize;
-    if n < 7 {
-        return Received::Refused(Refusal::NotWhole);
+    if n < LEAST_RAW {
+        return Unpacked::Refused(Refusal::NotWhole);
     }
-    if n > 27 {
-        return Received::Refused(Refusal::NotWhole);
+    if n > MOST_RAW {
+        return Unpacked::Refused(Refusal::NotWhole);
     }
     store_eight(&mut raw, count, end.part);
     unframe(&raw[..n], out)

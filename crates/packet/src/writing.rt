@@ -6,6 +6,7 @@ ghost use lib.ListN.{length};
 ghost use lib.Seq.{sets};
 ghost use Rattle.laws.specs.Lists.{over};
 ghost use Rattle.laws.specs.Tables.{byteTable};
+ghost use Rattle.limits.specs.Limits.{payloadBytes, mostPacket};
 ghost use Rattle.bits.specs.Bits.{turned, lowFirst, sentBits};
 ghost use Rattle.checking.specs.Check.{zeros, through, mirrored};
 ghost use Rattle.stuffing.specs.Stuff.{flag};
@@ -29,7 +30,7 @@ fn put_flag(out: &mut [u8], at: usize)
 }
 
 // Where writing stands: where sending does, and the register after what was sent.
-pub struct Standing {
+pub struct Progress {
     pub place: Sending,
     pub reg: u16,
 }
@@ -49,7 +50,7 @@ fn behind_zeros(bytes: &[u8]) -> u32
 }
 
 // Bytes, fewer than four, one by one, from a register that is all ones.
-fn send_few(turns: &[u8; 256], bytes: &[u8], out: &mut [u8], from: Sending) -> Standing
+fn send_few(turns: &[u8; 256], bytes: &[u8], out: &mut [u8], from: Sending) -> Progress
     requires { ⌜ (now turns ≡ byteTable turned) × (length (now bytes) < 4) × (from .tail < 16) × (from .at + length (toCome (from .tail) (sentBits (now bytes))) ≤ length (now out)) ⌝ }
     ensures { λ r. ⌜ Leads (sentBits (now (bytes .entry))) from (now (out .entry)) (r .place) (now (out .exit)) × (mirrored (r .reg) ≡ through 0xffff (sentBits (now (bytes .entry)))) ⌝ }
 {
@@ -60,24 +61,24 @@ fn send_few(turns: &[u8; 256], bytes: &[u8], out: &mut [u8], from: Sending) -> S
         i += 1;
     }
     let missing = 4 - bytes.len();
-    Standing {
+    Progress {
         place,
         reg: step(before(missing), behind_zeros(bytes)),
     }
 }
 
 // Four bytes. The register and the sending do not wait for each other.
-fn send_four(turns: &[u8; 256], four: u32, out: &mut [u8], from: Standing) -> Standing
+fn send_four(turns: &[u8; 256], four: u32, out: &mut [u8], from: Progress) -> Progress
     requires { ⌜ (now turns ≡ byteTable turned) × (from .place .tail < 16) × (from .place .at + 40 ≤ length (now out)) ⌝ }
     ensures { λ r. ⌜ Leads (lowFirst 32 four) (from .place) (now (out .entry)) (r .place) (now (out .exit)) × (mirrored (r .reg) ≡ through (mirrored (from .reg)) (lowFirst 32 four)) ⌝ }
 {
     let reg = step(from.reg, four);
     let place = send_word(turns, four as u64, out, from.place);
-    Standing { place, reg }
+    Progress { place, reg }
 }
 
 // Whole fours of bytes.
-fn send_fours(turns: &[u8; 256], bytes: &[u8], out: &mut [u8], from: Standing) -> Standing
+fn send_fours(turns: &[u8; 256], bytes: &[u8], out: &mut [u8], from: Progress) -> Progress
     requires { ⌜ (now turns ≡ byteTable turned) × (length (now bytes) % 4 ≡ 0) × (from .place .tail < 16) × (from .place .at + length (toCome (from .place .tail) (sentBits (now bytes))) ≤ length (now out)) ⌝ }
     ensures { λ r. ⌜ Leads (sentBits (now (bytes .entry))) (from .place) (now (out .entry)) (r .place) (now (out .exit)) × (mirrored (r .reg) ≡ through (mirrored (from .reg)) (sentBits (now (bytes .entry)))) ⌝ }
 {
@@ -92,7 +93,7 @@ fn send_fours(turns: &[u8; 256], bytes: &[u8], out: &mut [u8], from: Standing) -
 
 // The packet of a payload of at most 21 bytes, where there is room for it: how many bits. The bytes that are more than whole fours go first.
 pub fn build(payload: &[u8], out: &mut [u8]) -> usize
-    requires { ⌜ (length (now payload) ≤ 21) × (236 ≤ length (now out)) ⌝ }
+    requires { ⌜ (length (now payload) ≤ payloadBytes) × (mostPacket ≤ length (now out)) ⌝ }
     ensures { λ r. ⌜ (r ≡ length (packetOf (now (payload .entry)))) × (now (out .exit) ≡ over (packetOf (now (payload .entry))) (now (out .entry))) ⌝ }
 {
     let turned = turns();

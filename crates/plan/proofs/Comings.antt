@@ -6,6 +6,7 @@ use Prim.Native.Nat.{ℕ, _+_, _-_, _*_, _%_, _≤_, _<_}
 use native.Mathlib.Nat.{add-mod}
 use native.Mathlib.Decide.{ℕ-discrete, decLt}
 use native.Mathlib.Omega.{arith}
+use Rattle.limits.specs.Limits.{frameSlots}
 use Rattle.plan.specs.declared.Plan.{Plan}
 use Rattle.plan.specs.Plan.{InRange, along, nominal, half, first, floorGap, ceilGap, after}
 use Rattle.plan.specs.Times.{Comes, Within, Next, meant}
@@ -18,11 +19,11 @@ module _ (p : Plan) (k : ℕ) where
   unfolding meant
   meant-ahead u = omega arith
 
-  pub meant-near : (u : ℕ) → meant p k u ≤ u + 2250
+  pub meant-near : (u : ℕ) → meant p k u ≤ u + frameSlots
   unfolding meant
   meant-near u = omega arith
 
-  meant-number : (u : ℕ) → meant p k u % 2250 ≡ first p k
+  meant-number : (u : ℕ) → meant p k u % frameSlots ≡ first p k
   unfolding meant
   meant-number u = omega (arith, first-below p k)
 
@@ -30,46 +31,46 @@ module _ (p : Plan) (k : ℕ) where
   meant-comes l u = record { known = l; starts = meant-number u }
 
   -- there is no other coming of k whose first slot is 1 to 2250 ahead
-  pub meant-one : (u f : ℕ) → Comes p k f → u < f → f ≤ u + 2250 → f ≡ meant p k u
+  pub meant-one : (u f : ℕ) → Comes p k f → u < f → f ≤ u + frameSlots → f ≡ meant p k u
   meant-one u f c l m = omega (arith, c .starts, meant-number u, meant-ahead u, meant-near u)
 
 -- ---- two times f < g, a and b slots after the start of a frame, as the slot numbers tell
 
-drop-common : (m n c : ℕ) → (m + c) % 2250 ≡ (n + c) % 2250 → m % 2250 ≡ n % 2250
+drop-common : (m n c : ℕ) → (m + c) % frameSlots ≡ (n + c) % frameSlots → m % frameSlots ≡ n % frameSlots
 drop-common m n c e = omega arith
 
-cross : (f g h s a b : ℕ) → (f + h) % 2250 ≡ (s + a) % 2250 → (g + h) % 2250 ≡ (s + b) % 2250 → (f + b) % 2250 ≡ (g + a) % 2250
+cross : (f g h s a b : ℕ) → (f + h) % frameSlots ≡ (s + a) % frameSlots → (g + h) % frameSlots ≡ (s + b) % frameSlots → (f + b) % frameSlots ≡ (g + a) % frameSlots
 cross f g h s a b x y =
-    let z : ((f + h) + (s + b)) % 2250 ≡ ((s + a) + (g + h)) % 2250 =
-    add-mod (f + h) (s + b) 2250
-    ∙ ap (λ (n : ℕ). (n + (s + b) % 2250) % 2250) x
-    ∙ ap (λ (n : ℕ). ((s + a) % 2250 + n) % 2250) (sym y)
-    ∙ sym (add-mod (s + a) (g + h) 2250) in
-    drop-common (f + b) (g + a) (s + h) (ap (λ (n : ℕ). n % 2250) (omega arith) ∙ z ∙ ap (λ (n : ℕ). n % 2250) (omega arith))
+    let z : ((f + h) + (s + b)) % frameSlots ≡ ((s + a) + (g + h)) % frameSlots =
+    add-mod (f + h) (s + b) frameSlots
+    ∙ ap (λ (n : ℕ). (n + (s + b) % frameSlots) % frameSlots) x
+    ∙ ap (λ (n : ℕ). ((s + a) % frameSlots + n) % frameSlots) (sym y)
+    ∙ sym (add-mod (s + a) (g + h) frameSlots) in
+    drop-common (f + b) (g + a) (s + h) (ap (λ (n : ℕ). n % frameSlots) (omega arith) ∙ z ∙ ap (λ (n : ℕ). n % frameSlots) (omega arith))
 
-module _ (f g a b : ℕ) (e : (f + b) % 2250 ≡ (g + a) % 2250) (m : f < g) where
-  cross-up : (w : ℕ) → a + w ≤ b → b ≤ 2250 → f + w ≤ g
+module _ (f g a b : ℕ) (e : (f + b) % frameSlots ≡ (g + a) % frameSlots) (m : f < g) where
+  cross-up : (w : ℕ) → a + w ≤ b → b ≤ frameSlots → f + w ≤ g
   cross-up w x y = omega arith
 
-  cross-down : (w : ℕ) → a + w ≤ 2250 → w ≤ 2250 → b < a ⊎ (a ≡ b) → f + w ≤ g
+  cross-down : (w : ℕ) → a + w ≤ frameSlots → w ≤ frameSlots → b < a ⊎ (a ≡ b) → f + w ≤ g
   cross-down w y z (inl c) = omega arith
   cross-down w y z (inr c) = omega arith
 
-  cross-next : (w : ℕ) → g ≤ f + 2250 → a < b → b ≤ a + w → b ≤ 2250 → g ≤ f + w
+  cross-next : (w : ℕ) → g ≤ f + frameSlots → a < b → b ≤ a + w → b ≤ frameSlots → g ≤ f + w
   cross-next w n c x y = omega arith
 
-  cross-last : (w : ℕ) → g ≤ f + 2250 → b ≡ 0 → 2250 ≤ a + w → a < 2250 → g ≤ f + w
+  cross-last : (w : ℕ) → g ≤ f + frameSlots → b ≡ 0 → frameSlots ≤ a + w → a < frameSlots → g ≤ f + w
   cross-last w n c x y = omega arith
 
 -- ---- the comings of all windows
 
 module _ (p : Plan) (good : InRange p) where
   -- the nominal slot of a coming
-  comes-nominal : (k f : ℕ) → Comes p k f → (f + half p) % 2250 ≡ (p .start + along p k) % 2250
+  comes-nominal : (k f : ℕ) → Comes p k f → (f + half p) % frameSlots ≡ (p .start + along p k) % frameSlots
   unfolding first nominal
   comes-nominal k f c = omega (arith, c .starts, half-most p)
 
-  crossed : (k l f g : ℕ) → Comes p k f → Comes p l g → (f + along p l) % 2250 ≡ (g + along p k) % 2250
+  crossed : (k l f g : ℕ) → Comes p k f → Comes p l g → (f + along p l) % frameSlots ≡ (g + along p k) % frameSlots
   crossed k l f g a b = cross f g (half p) (p .start) (along p k) (along p l) (comes-nominal k f a) (comes-nominal l g b)
 
   -- two comings start at least floor(2250/r) apart

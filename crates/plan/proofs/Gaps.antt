@@ -7,6 +7,7 @@ use native.Mathlib.Nat.{div-le-self, div-mul-le-self, le-div-iff-mul-le, div-lt-
 use native.Mathlib.Numerals.{add-one}
 use native.Mathlib.Decide.{ℕ-discrete}
 use native.Mathlib.Omega.{arith}
+use Rattle.limits.specs.Limits.{frameSlots, tenth}
 use Rattle.plan.specs.declared.Plan.{Plan}
 use Rattle.plan.specs.Plan.{InRange, along, nominal, half, first, floorGap, ceilGap, after, gap, gaps}
 
@@ -32,17 +33,17 @@ module _ (r : ℕ) (pos : 0 < r) where
 -- ---- of every plan
 
 module _ (p : Plan) where
-  pub nominal-below : (k : ℕ) → nominal p k < 2250
+  pub nominal-below : (k : ℕ) → nominal p k < frameSlots
   unfolding nominal
   nominal-below k = omega arith
 
-  pub first-below : (k : ℕ) → first p k < 2250
+  pub first-below : (k : ℕ) → first p k < frameSlots
   unfolding first
   first-below k = omega arith
 
-  pub half-most : half p ≤ 225
+  pub half-most : half p ≤ tenth
   unfolding half
-  half-most = div-le-self 225 (p .rate)
+  half-most = div-le-self tenth (p .rate)
 
 -- ---- where the nominal slots lie
 
@@ -51,41 +52,41 @@ module _ (p : Plan) (good : InRange p) where
   unfolding along
   along-zero = simp (mul-zero, zero-div)
 
-  along-rate : along p (p .rate) ≡ 2250
+  along-rate : along p (p .rate) ≡ frameSlots
   unfolding along
-  along-rate = mul-div-cancel 2250 (good .some)
+  along-rate = mul-div-cancel frameSlots (good .some)
 
   pub along-apart : (k l : ℕ) → k < l → along p k + floorGap p ≤ along p l
   unfolding along floorGap
-  along-apart k l m = div-sum (p .rate) (good .some) (2250 * k) 2250 (2250 * l) (omega arith)
+  along-apart k l m = div-sum (p .rate) (good .some) (frameSlots * k) frameSlots (frameSlots * l) (omega arith)
 
   pub along-near : (k : ℕ) → along p (k + 1) ≤ along p k + ceilGap p
   unfolding along ceilGap
-  along-near k = div-rise (p .rate) (good .some) (2250 * k) 2250 (2250 * (k + 1)) (omega arith)
+  along-near k = div-rise (p .rate) (good .some) (frameSlots * k) frameSlots (frameSlots * (k + 1)) (omega arith)
 
-  pub along-below : (k : ℕ) → k < p .rate → along p k + floorGap p ≤ 2250
+  pub along-below : (k : ℕ) → k < p .rate → along p k + floorGap p ≤ frameSlots
   along-below k m = omega (arith, along-apart k (p .rate) m, along-rate)
 
-  pub along-most : (k : ℕ) → k < p .rate → along p k ≤ 2250
+  pub along-most : (k : ℕ) → k < p .rate → along p k ≤ frameSlots
   along-most k m = omega (arith, along-below k m)
 
-  pub along-last : (k : ℕ) → k + 1 ≡ p .rate → 2250 ≤ along p k + ceilGap p
+  pub along-last : (k : ℕ) → k + 1 ≡ p .rate → frameSlots ≤ along p k + ceilGap p
   along-last k e = omega (arith, along-near k, ap (along p) e, along-rate)
 
   pub floor-ceil : ceilGap p ≤ floorGap p + 1
   unfolding ceilGap floorGap
-  floor-ceil = div-ceil (p .rate) (good .some) 2250
+  floor-ceil = div-ceil (p .rate) (good .some) frameSlots
 
   -- windows are a fifth of the way to the next nominal slot
   pub half-tenth : 10 * half p ≤ floorGap p
   unfolding half floorGap
-  half-tenth = div-tens (p .rate) (good .some) 225 2250 (omega arith)
+  half-tenth = div-tens (p .rate) (good .some) tenth frameSlots (omega arith)
 
   pub half-least : 7 ≤ half p
   unfolding half
   half-least = le-div-iff-mul-le (good .some) .1 (omega (arith, good .most))
 
-  pub floor-most : floorGap p ≤ 2250
+  pub floor-most : floorGap p ≤ frameSlots
   floor-most = omega (arith, along-below 0 (good .some))
 
   pub after-inner : (k : ℕ) → k + 1 < p .rate → after p k ≡ k + 1
@@ -124,5 +125,5 @@ module _ (p : Plan) (good : InRange p) where
   gaps-along (suc n) l = omega (arith, gaps-along n (omega arith), gap-along n (omega arith), ap (along p) (add-one n))
 
   -- and the r of them sum to a frame
-  pub gaps-sum : gaps p (p .rate) ≡ 2250
+  pub gaps-sum : gaps p (p .rate) ≡ frameSlots
   gaps-sum = gaps-along (p .rate) (omega arith) ∙ along-rate

@@ -7,6 +7,7 @@ use Prim.Native.Nat.{ℕ, _+_, _-_, _%_, _≤_, _<_}
 use native.Mathlib.Decide.{ℕ-discrete}
 use native.Mathlib.Omega.{arith}
 use lib.Dec.{T}
+use Rattle.limits.specs.Limits.{frameSlots}
 use Rattle.plan.specs.declared.Plan.{Plan}
 use Rattle.plan.specs.Plan.{InRange, nominal, half, slots, first, since, InWindow}
 use Rattle.plan.specs.Times.{Comes, Within}
@@ -14,36 +15,36 @@ use Rattle.plan.proofs.Gaps.{nominal-below, first-below, half-most}
 use Rattle.plan.proofs.Comings.{no-overlap, one-window}
 
 module _ (p : Plan) (k : ℕ) where
-  pub middle : (first p k + half p) % 2250 ≡ nominal p k
+  pub middle : (first p k + half p) % frameSlots ≡ nominal p k
   unfolding first
   middle = omega (arith, nominal-below p k, half-most p)
 
   -- so many slots since the first one, where fewer than a frame have passed
-  since-first : (f t : ℕ) → f % 2250 ≡ first p k → f ≤ t → t < f + 2250 → f + since (first p k) (t % 2250) ≡ t
+  since-first : (f t : ℕ) → f % frameSlots ≡ first p k → f ≤ t → t < f + frameSlots → f + since (first p k) (t % frameSlots) ≡ t
   since-first f t e l m = omega arith
 
-  pub slot-within : (t f : ℕ) → Comes p k f → Within p f t → InWindow p k (t % 2250)
+  pub slot-within : (t f : ℕ) → Comes p k f → Within p f t → InWindow p k (t % frameSlots)
   unfolding slots
   slot-within t f c w =
       record { known = c .known; near = omega (arith, since-first f t (c .starts) (w .from) (omega (arith, w .to, half-most p)), w .to) }
 
-  pub slot-comes : (t : ℕ) → InWindow p k (t % 2250) → since (first p k) (t % 2250) ≤ t → Comes p k (t - since (first p k) (t % 2250))
+  pub slot-comes : (t : ℕ) → InWindow p k (t % frameSlots) → since (first p k) (t % frameSlots) ≤ t → Comes p k (t - since (first p k) (t % frameSlots))
   slot-comes t w l = record { known = w .known; starts = omega (arith, first-below p k) }
 
-  pub slot-inside : (t : ℕ) → InWindow p k (t % 2250) → Within p (t - since (first p k) (t % 2250)) t
+  pub slot-inside : (t : ℕ) → InWindow p k (t % frameSlots) → Within p (t - since (first p k) (t % frameSlots)) t
   unfolding slots
   slot-inside t w = record { from = omega arith; to = omega (arith, w .near) }
 
 -- a slot number is met a frame later, when a window that it lies in has started
-pub one-slot : (p : Plan) → InRange p → (k l n : ℕ) → n < 2250 → InWindow p k n → InWindow p l n → k ≡ l
+pub one-slot : (p : Plan) → InRange p → (k l n : ℕ) → n < frameSlots → InWindow p k n → InWindow p l n → k ≡ l
 one-slot p good k l n b v w =
-    let e : n ≡ (n + 2250) % 2250 = omega arith in
-    same-time (n + 2250) (omega arith) (rw e at v) (rw e at w)
+    let e : n ≡ (n + frameSlots) % frameSlots = omega arith in
+    same-time (n + frameSlots) (omega arith) (rw e at v) (rw e at w)
   where
-    same-time : (t : ℕ) → 2250 ≤ t → InWindow p k (t % 2250) → InWindow p l (t % 2250) → k ≡ l
+    same-time : (t : ℕ) → frameSlots ≤ t → InWindow p k (t % frameSlots) → InWindow p l (t % frameSlots) → k ≡ l
     same-time t m v w =
-        let f = t - since (first p k) (t % 2250) in
-        let g = t - since (first p l) (t % 2250) in
+        let f = t - since (first p k) (t % frameSlots) in
+        let g = t - since (first p l) (t % frameSlots) in
         let c : Comes p k f = slot-comes p k t v (omega arith) in
         let d : Comes p l g = slot-comes p l t w (omega arith) in
         let e : f ≡ g = no-overlap p good k l f g t c d (slot-inside p k t v) (slot-inside p l t w) in

@@ -5,6 +5,7 @@ use mathlib.Core.Path.{_≡_}
 use mathlib.Core.Bool.{Bool}
 use mathlib.Core.Logic.{_⊎_, _↔_}
 use lib.Dec.{T}
+use Rattle.limits.specs.Limits.{frameSlots}
 use Rattle.plan.specs.declared.Plan.{Plan}
 use Rattle.plan.specs.declared.Lies.{Lies}
 use Rattle.plan.specs.Plan.{InRange, nominal, half, first, floorGap, ceilGap, after, gap, gaps, since, InWindow, Tells}
@@ -24,30 +25,30 @@ GapsFloorOrCeil = (p : Plan) → InRange p → (k : ℕ) → k < p .rate → (ga
 
 -- the r gaps make a frame: no slot is lost, however long it goes on
 abbrev pub GapsMakeAFrame : Type 0
-GapsMakeAFrame = (p : Plan) → InRange p → gaps p (p .rate) ≡ 2250
+GapsMakeAFrame = (p : Plan) → InRange p → gaps p (p .rate) ≡ frameSlots
 
 -- ---- windows in slot numbers
 
 -- the nominal slot is the middle one: h slots of its window are before it, and h after
 abbrev pub NominalInTheMiddle : Type 0
-NominalInTheMiddle = (p : Plan) (k : ℕ) → (first p k + half p) % 2250 ≡ nominal p k
+NominalInTheMiddle = (p : Plan) (k : ℕ) → (first p k + half p) % frameSlots ≡ nominal p k
 
 -- no slot lies in two windows
 abbrev pub NoSlotInTwo : Type 0
-NoSlotInTwo = (p : Plan) → InRange p → (k l n : ℕ) → n < 2250 → InWindow p k n → InWindow p l n → k ≡ l
+NoSlotInTwo = (p : Plan) → InRange p → (k l n : ℕ) → n < frameSlots → InWindow p k n → InWindow p l n → k ≡ l
 
 -- so no second answer meets the contract of window_of
 abbrev pub ToldOnce : Type 0
-ToldOnce = (p : Plan) → InRange p → (n : ℕ) → n < 2250 → (r r′ : Lies) → Tells p n r → Tells p n r′ → r ≡ r′
+ToldOnce = (p : Plan) → InRange p → (n : ℕ) → n < frameSlots → (r r′ : Lies) → Tells p n r → Tells p n r′ → r ≡ r′
 
 -- ---- windows in slot times
 
 -- a time lies in a coming of k where its slot number lies in the window of k, and the number tells where that coming started. (One that
 -- started before time 0 has no time of start.)
 pub record SlotTells (p : Plan) (k t : ℕ) : Type 0 where
-  pub number : (f : ℕ) → Comes p k f → Within p f t → InWindow p k (t % 2250)
-  pub start : InWindow p k (t % 2250) → since (first p k) (t % 2250) ≤ t
-      → Comes p k (t - since (first p k) (t % 2250)) × Within p (t - since (first p k) (t % 2250)) t
+  pub number : (f : ℕ) → Comes p k f → Within p f t → InWindow p k (t % frameSlots)
+  pub start : InWindow p k (t % frameSlots) → since (first p k) (t % frameSlots) ≤ t
+      → Comes p k (t - since (first p k) (t % frameSlots)) × Within p (t - since (first p k) (t % frameSlots)) t
 
 abbrev pub SlotsTellTimes : Type 0
 SlotsTellTimes = (p : Plan) (k t : ℕ) → SlotTells p k t
@@ -79,8 +80,8 @@ NoFarther =
 pub record MeantAhead (p : Plan) (k u : ℕ) : Type 0 where
   pub comes : Comes p k (meant p k u)
   pub least : u + 1 ≤ meant p k u
-  pub most : meant p k u ≤ u + 2250
-  pub only : (f : ℕ) → Comes p k f → u + 1 ≤ f → f ≤ u + 2250 → f ≡ meant p k u
+  pub most : meant p k u ≤ u + frameSlots
+  pub only : (f : ℕ) → Comes p k f → u + 1 ≤ f → f ≤ u + frameSlots → f ≡ meant p k u
 
 abbrev pub MeantIsAhead : Type 0
 MeantIsAhead = (p : Plan) (k u : ℕ) → k < p .rate → MeantAhead p k u

@@ -5,7 +5,14 @@ ghost use mathlib.Core.Path.{_≡_};
 ghost use Prim.Native.Nat.{_<_};
 ghost use lib.Dec.{T};
 ghost use mathlib.Core.Logic.{_↔_};
+ghost use Rattle.limits.specs.Limits.{frameSlots};
 ghost use Rattle.plan.specs.Plan.{InRange, nominal, half, first, slots, InWindow, Tells};
+
+const FRAME: u16 = limits::FRAME as u16;
+
+const TENTH: u16 = limits::TENTH as u16;
+
+const MOST_RATE: u16 = limits::MOST_RATE as u16;
 
 // Any rate and start can stand here; a plan out of its range counts as none.
 pub struct Plan {
@@ -45,10 +52,10 @@ impl Plan {
         if rate < 1 {
             return false;
         }
-        if 30 < rate {
+        if MOST_RATE < rate {
             return false;
         }
-        start < 2250
+        start < FRAME
     }
 
     // The nominal slot k. 2250 * 29 still fits 16 bits.
@@ -56,7 +63,7 @@ impl Plan {
         requires { ⌜ InRange self × (k < self .rate) ⌝ }
         ensures { λ r. ⌜ r ≡ nominal self k ⌝ }
     {
-        (self.start + 2250 * k / self.rate) % 2250
+        (self.start + FRAME * k / self.rate) % FRAME
     }
 
     // How far a window reaches to each side of its nominal slot.
@@ -64,7 +71,7 @@ impl Plan {
         requires { ⌜ InRange self ⌝ }
         ensures { λ r. ⌜ r ≡ half self ⌝ }
     {
-        225 / self.rate
+        TENTH / self.rate
     }
 
     // The number of slots of a window.
@@ -80,21 +87,21 @@ impl Plan {
         requires { ⌜ InRange self × (k < self .rate) ⌝ }
         ensures { λ r. ⌜ r ≡ first self k ⌝ }
     {
-        (self.nominal(k) + 2250 - self.half()) % 2250
+        (self.nominal(k) + FRAME - self.half()) % FRAME
     }
 
     // Whether a slot is one of the window of k.
     fn covers(self, k: u16, slot: u16) -> bool
-        requires { ⌜ InRange self × (k < self .rate) × (slot < 2250) ⌝ }
+        requires { ⌜ InRange self × (k < self .rate) × (slot < frameSlots) ⌝ }
         ensures { λ r. ⌜ T r ↔ InWindow self k slot ⌝ }
     {
-        (slot + 2250 - self.first(k)) % 2250 < self.slots()
+        (slot + FRAME - self.first(k)) % FRAME < self.slots()
     }
 
     // The window that a slot lies in, if it lies in one. It goes through the windows, at most 30: a quotient would have to be corrected for
     // its rounding.
     pub fn window_of(self, slot: u16) -> Lies
-        requires { ⌜ InRange self × (slot < 2250) ⌝ }
+        requires { ⌜ InRange self × (slot < frameSlots) ⌝ }
         ensures { λ r. ⌜ Tells self slot r ⌝ }
     {
         let mut k: u16 = 0;

@@ -8,17 +8,19 @@ use borrow.Author.Tests.{ltb-true}
 use lib.Dec.{ltb}
 use lib.ListN.{length}
 use Rattle.laws.specs.Tests.{between}
+use Rattle.laws.specs.Exactly.{AllHold}
 use Rattle.laws.specs.Loops.{upto}
 use Rattle.laws.proofs.Tests.{was-false, both-left}
-use Rattle.laws.proofs.Ladder.{AllHold, passed, all-through}
+use Rattle.laws.proofs.Ladder.{all-answered, all-through}
+use Rattle.limits.specs.Limits.{frameSlots, leastTimeOut, mostTimeOut}
 use Rattle.book.specs.declared.Standing.{Standing}
 use Rattle.book.specs.Book.{Book, ours, holders, place, bookOf, talliesOf, putAt}
 use Rattle.book.proofs.Once.{parts-make}
 use Rattle.book.proofs.Plans.{in-range}
 use Rattle.book.proofs.Lengths.{all-records}
-use Rattle.choice.specs.Window.{distanceIn}
-use Rattle.choice.specs.Promises.{Picks}
-use Rattle.choosing.specs.declared.Ask.{Ask}
+use Rattle.candidates.specs.Window.{distanceIn}
+use Rattle.candidates.specs.Promises.{Picks}
+use Rattle.choosing.specs.declared.Wanted.{Wanted}
 use Rattle.choosing.specs.declared.Choice.{Choice}
 use Rattle.choosing.specs.declared.Chosen.{Chosen}
 use Rattle.choosing.specs.declared.Chosen.the-variants.{Done as IsChosen, Refused as NotChosen}
@@ -39,9 +41,9 @@ use Rattle.choosing.specs.Choosing.{
 use Rattle.choosing.proofs.Promised.{chosen-is-candidate, marks-in-the-book}
 use Rattle.register.specs.declared.Order.{Order}
 use Rattle.register.specs.declared.What.the-variants.{Choose}
-use Rattle.cores.specs.declared.Answer.the-variants.{Refused}
-use Rattle.cores.specs.Core.{standingOf, chosenOut, leftChosen, agedOrder}
-use Rattle.promises.specs.Calls.{State, bookIn}
+use Rattle.answering.specs.declared.Answer.the-variants.{Refused}
+use Rattle.answering.specs.Answering.{standingOf, chosenOut, leftChosen, agedOrder}
+use Rattle.promises.specs.Calls.{Kept, bookIn}
 use Rattle.promises.specs.Windows.{planIn}
 use Rattle.promises.proofs.Lengths.{all-holders, frames-sizes}
 use Rattle.promises.proofs.Settled.{talliesIn, tallies-are, sources-stay}
@@ -53,9 +55,9 @@ any-reach : (present d : ℕ) (b : Book) (o o′ : List ℕ) (n : ℕ)
     → ownFrames present d (record { book = b; reach = o }) n .book ≡ ownFrames present d (record { book = b; reach = o′ }) n .book
 unfolding upto ownAt
 any-reach present d b o o′ zero = refl
-any-reach present d b o o′ (suc n) = ap (λ (c : Book). putAt c (place present (d + 2250 * n)) ours) (any-reach present d b o o′ n)
+any-reach present d b o o′ (suc n) = ap (λ (c : Book). putAt c (place present (d + frameSlots * n)) ours) (any-reach present d b o o′ n)
 
-module _ (s : State) (f : Fine s) (a : Ask) (vs : List ℕ) where
+module _ (s : Kept) (f : Fine s) (a : Wanted) (vs : List ℕ) where
   abbrev us : List ℕ
   us = talliesIn (s .reg)
 
@@ -90,7 +92,7 @@ module _ (s : State) (f : Fine s) (a : Ask) (vs : List ℕ) where
     held : AllHold (chooseTests lists now (planIn s) a)
     unfolding chooseAnswer chooseTests
     held =
-        passed chosenNumber 0 (chooseTests lists now (planIn s) a) (IsChosen (choiceIn lists now (planIn s) a)) tt refl .0 (ap chosenNumber (sym e))
+        all-answered chosenNumber (chooseTests lists now (planIn s) a) (IsChosen (choiceIn lists now (planIn s) a)) tt (ap chosenNumber (sym e))
 
     -- so the answer is the one that is given then
     given : c ≡ choiceIn lists now (planIn s) a
@@ -109,7 +111,7 @@ module _ (s : State) (f : Fine s) (a : Ask) (vs : List ℕ) where
 
     known : a .k < planIn s .rate
     unfolding chooseTests askFits
-    known = ltb-true (a .k) (planIn s .rate) (both-left (ltb (a .k) (planIn s .rate)) (between 3 7 (a .timeout)) (held .1 .1 .0))
+    known = ltb-true (a .k) (planIn s .rate) (both-left (ltb (a .k) (planIn s .rate)) (between leastTimeOut mostTimeOut (a .timeout)) (held .1 .1 .0))
 
     chosen-by : ChosenBy a (record { distance = c .distance; slot = c .slot; candidates = c .candidates; replaced = c .replaced }) s
         (leftBy s (leftChosen (s .watch) (IsChosen c) (chooseLeft lists now (planIn s) a (IsChosen c))))

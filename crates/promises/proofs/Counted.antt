@@ -5,17 +5,18 @@ use mathlib.Core.Path.{_≡_, refl, sym, ap, subst}
 use mathlib.Core.List.{List, _∷_, map}
 use native.Mathlib.Omega.{arith}
 use lib.ListN.{replicate}
-use Rattle.book.specs.Book.{slotTimes, records, ours, wide}
+use Rattle.limits.specs.Limits.{slotTimes, records}
+use Rattle.book.specs.Book.{ours, wide}
 use Rattle.book.specs.Pass.{Moment}
 use Rattle.book.specs.Sound.{Sound}
 use Rattle.book.specs.Promises.{newBook}
 use Rattle.book.proofs.Soundness.{sound-new, sound-pass, sound-release, all-make}
 use Rattle.announcing.specs.Announce.{announces}
-use Rattle.announcing.proofs.Keeping.{sound-acted}
+use Rattle.announcing.proofs.Effect.{sound-booked}
 use Rattle.choosing.proofs.Replacing.{sound-frames}
 use Rattle.register.specs.declared.Station.{Station}
 use Rattle.register.specs.Register.{blank}
-use Rattle.promises.specs.Calls.{State, newState, afterAll, bookIn}
+use Rattle.promises.specs.Calls.{Kept, newState, afterAll, bookIn}
 use Rattle.promises.specs.History.{Event}
 use Rattle.promises.specs.Tallies.{TalliesAreCounts, AllMakeTheWhole}
 use Rattle.promises.proofs.Moves.{recordIn, worldIn}
@@ -33,7 +34,7 @@ unfolding newState newBook
 book-new n m e = λ i. record { slots = replicate n 0; tallies = wide (record { free = sym e i; own = 0 }) (tallies-new m i) }
 
 -- whatever happens keeps the tallies right
-pub counted : Stands (λ (s : State) (es : List Event). Sound (bookIn s))
+pub counted : Stands (λ (s : Kept) (es : List Event). Sound (bookIn s))
 counted =
     record {
       new = subst Sound (sym (book-new slotTimes records refl)) sound-new;
@@ -41,7 +42,7 @@ counted =
       staying = λ s s′ es b p. subst Sound (sym (b .book)) p;
       hearing = λ s s′ es x f b p.
           subst Sound (sym (b .book))
-          (sound-acted (s .watch .present) (suc (recordIn s x)) (omega (arith, b .there)) (bookIn s) (announces (x .state)) p);
+          (sound-booked (s .watch .present) (suc (recordIn s x)) (announces (x .state)) (omega (arith, b .there)) (bookIn s) p);
       planning = λ s s′ es f b p. subst Sound (sym (b .book)) (sound-release (bookIn s) ours slotTimes (omega arith) p);
       choosing = λ s s′ es a c f b p.
           subst Sound (sym (b .book)) (sound-frames (s .watch .present) (c .distance) (worldIn s) (suc (a .timeout)) p);

@@ -7,7 +7,7 @@ use Rattle.message.proofs.Exactly as message-numbers
 use Rattle.ship.proofs.Promised as ship
 use Rattle.book.proofs.Promised as book
 use Rattle.hearing.proofs.Promised as hearing
-use Rattle.choice.proofs.Promised as choice
+use Rattle.candidates.proofs.Promised as candidates
 use Rattle.choosing.proofs.Promised as choosing
 use Rattle.reporting.proofs.Promised as reporting
 use Rattle.board.proofs.Once as board
@@ -34,6 +34,7 @@ deed =
         planned = book.plan-exactly;
         own = ship.own-exactly;
         chosen = choosing.choose-exactly;
+        never-beyond = choosing.never-beyond;
         reported = reporting.report-exactly;
         nothing-changed = calls.refused-keeps-all;
         only-passes = passing.refused-still-passes;
@@ -45,12 +46,12 @@ deed =
         message-again = message.write-after-read;
         holders = holders-by-events;
         picked = choosing.chosen-is-candidate;
-        equal-draws = choice.equal-draws-each;
-        rest-sent-back = choice.rest-sent-back;
-        none-exactly = choice.none-exactly;
-        reused-only-under-four = choice.held-only-under-four;
-        farthest-first = choice.farthest-first;
-        ties-to-the-earlier = choice.ties-to-the-earlier;
+        equal-draws = candidates.equal-draws-each;
+        rest-sent-back = candidates.rest-sent-back;
+        none-exactly = candidates.none-exactly;
+        reused-only-under-four = candidates.held-only-under-four;
+        farthest-first = candidates.farthest-first;
+        ties-to-the-earlier = candidates.ties-to-the-earlier;
         cut-anywhere = journal.however-cut;
         sum-is-last = journal.sum-is-last;
       };

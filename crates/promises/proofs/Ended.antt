@@ -6,41 +6,41 @@ use Prim.Native.Nat.{ℕ}
 use borrow.Author.Tests.{eq-eqb}
 use lib.ListN.{length, length-map}
 use Rattle.laws.specs.Loops.{upto}
-use Rattle.book.specs.Book.{slotTimes, records}
+use Rattle.limits.specs.Limits.{slotTimes, records}
 use Rattle.book.specs.Pass.{Moment, passes}
 use Rattle.book.proofs.Once.{tallies-back, counts-back}
 use Rattle.register.specs.declared.What.{What}
 use Rattle.register.specs.Register.{tallyOf, wordOf, settle}
 use Rattle.register.specs.Sheet.{Out, settledBy, out}
-use Rattle.cores.specs.declared.Reply.{Reply}
-use Rattle.cores.specs.Core.{watchWith, Core, coreBy, First, after, firstOf, agedCore, coreAfter, coreOf}
+use Rattle.answering.specs.declared.Reply.{Reply}
+use Rattle.answering.specs.Answering.{watchWith, Core, coreBy, First, after, firstOf, agedCore, coreAfter, coreOf}
 use Rattle.calls.specs.Calls.{asked}
-use Rattle.promises.specs.Calls.{State, outOf}
+use Rattle.promises.specs.Calls.{Kept, outOf}
 use Rattle.promises.proofs.Settled.{talliesIn}
 use Rattle.promises.proofs.Moves.{momentIn}
 
 -- what a call gives back and leaves, by what its core leaves
-abbrev pub ends : State → Core → Out Reply (List ℕ)
+abbrev pub ends : Kept → Core → Out Reply (List ℕ)
 ends s k = out (k .answer) (settledBy (settle (k .order)) (k .left) (k .right) (s .reg)) (k .book)
 
-abbrev pub stateIn : Out Reply (List ℕ) → State
+abbrev pub stateIn : Out Reply (List ℕ) → Kept
 stateIn o = record { reg = o .reg; book = o .book; watch = o .answer .watch }
 
-abbrev pub wordsIn : State → ℕ → What → List ℕ
+abbrev pub wordsIn : Kept → ℕ → What → List ℕ
 wordsIn s n q = map (wordOf (asked (s .watch) n q)) (s .reg)
 
 -- the core where no slot passes first
-abbrev pub coreIn : State → What → Core
+abbrev pub coreIn : Kept → What → Core
 coreIn s q = coreBy q (s .watch) records (talliesIn (s .reg)) (wordsIn s 0 q) (s .book)
 
 -- once n slots have passed: the book, and the core of m records
-abbrev pub moment : State → ℕ → Moment
+abbrev pub moment : Kept → ℕ → Moment
 moment s n = passes (momentIn s) n
 
-abbrev pub coreThen : State → ℕ → What → ℕ → Core
+abbrev pub coreThen : Kept → ℕ → What → ℕ → Core
 coreThen s n q m = coreAfter (asked (s .watch) n q) m (wordsIn s n q) (after (s .watch) n (moment s n))
 
-module _ (s : State) (size : length (s .reg) ≡ records) (long : length (s .book) ≡ slotTimes) where
+module _ (s : Kept) (size : length (s .reg) ≡ records) (long : length (s .book) ≡ slotTimes) where
   first-all : (n : ℕ) → firstOf (s .watch) n (length (s .reg)) (talliesIn (s .reg)) (s .book) ≡ after (s .watch) n (moment s n)
   unfolding firstOf
   first-all n = rw (eq-eqb (length (s .reg)) records size, eq-eqb (length (s .book)) slotTimes long)

@@ -5,9 +5,9 @@ use mathlib.Core.Path.{_≡_, sym, subst}
 use mathlib.Core.List.{List, [], _∷_}
 use Rattle.register.specs.declared.What.the-variants.{Nothing}
 use Rattle.register.specs.Sheet.{Out}
-use Rattle.cores.specs.declared.Reply.{Reply}
+use Rattle.answering.specs.declared.Reply.{Reply}
 use Rattle.calls.proofs.Passing.{passes-first}
-use Rattle.promises.specs.Calls.{State, Call, outOf, afterCall, afterAll}
+use Rattle.promises.specs.Calls.{Kept, Call, outOf, afterCall, afterAll}
 use Rattle.promises.specs.History.{Event, pastBy, pastOf}
 use Rattle.promises.specs.History.Event.{passed}
 use Rattle.promises.proofs.Ended.{stateIn}
@@ -24,11 +24,11 @@ passesOf c = record { passes = c .passes; what = Nothing }
 abbrev restOf : Call → Call
 restOf c = record { passes = 0; what = c .what }
 
-answer-in-two : (s : State) (c : Call) → outOf s c ≡ outOf (afterCall s (passesOf c)) (restOf c)
+answer-in-two : (s : Kept) (c : Call) → outOf s c ≡ outOf (afterCall s (passesOf c)) (restOf c)
 unfolding afterCall
 answer-in-two s c = passes-first (s .watch) (c .passes) (c .what) (s .reg) (s .book)
 
-one-call : (P : State → List Event → Type 0) → Stands P → (s : State) (c : Call) (es : List Event) → Fine s → P s es
+one-call : (P : Kept → List Event → Type 0) → Stands P → (s : Kept) (c : Call) (es : List Event) → Fine s → P s es
     → P (afterCall s c) (pastBy (outOf s c .answer .answer) (c .what) (passed (c .passes) ∷ es))
 unfolding afterCall
 one-call P h s c es f p =
@@ -46,7 +46,7 @@ grown [] = lasting .new
 grown (c ∷ cs) = one-call _ lasting (afterAll cs) c [] (grown cs) (grown cs)
 
 -- so it is of every state, with its events
-pub always : (P : State → List Event → Type 0) → Stands P → (cs : List Call) → P (afterAll cs) (pastOf cs)
+pub always : (P : Kept → List Event → Type 0) → Stands P → (cs : List Call) → P (afterAll cs) (pastOf cs)
 unfolding afterAll pastOf
 always P h [] = h .new
 always P h (c ∷ cs) = one-call P h (afterAll cs) c (pastOf cs) (grown cs) (always P h cs)

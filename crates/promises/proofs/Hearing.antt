@@ -9,10 +9,12 @@ use borrow.Author.Tests.{ltb-true}
 use lib.Dec.{eqb}
 use lib.ListN.{length, set, length-map}
 use Rattle.laws.specs.Tests.{between}
+use Rattle.laws.specs.Exactly.{AllHold}
 use Rattle.laws.proofs.Tests.{both-left, between-is}
-use Rattle.laws.proofs.Ladder.{AllHold, passed, all-through}
+use Rattle.laws.proofs.Ladder.{all-answered, all-through}
+use Rattle.limits.specs.Limits.{records}
 use Rattle.ship.specs.Ship.{fairSource}
-use Rattle.book.specs.Book.{Book, records, holders, bookOf, talliesOf}
+use Rattle.book.specs.Book.{Book, holders, bookOf, talliesOf}
 use Rattle.book.proofs.Once.{tallies-back, parts-make}
 use Rattle.book.proofs.Lengths.{all-records}
 use Rattle.hearing.specs.declared.Telling.{Telling}
@@ -20,21 +22,22 @@ use Rattle.hearing.specs.declared.Told.the-variants.{Station as Told}
 use Rattle.hearing.specs.declared.Hearing.{Hearing}
 use Rattle.hearing.specs.declared.Heard.{Heard}
 use Rattle.hearing.specs.declared.Heard.the-variants.{Done as IsHeard, Refused as NotHeard}
-use Rattle.announcing.specs.Acts.{acted}
+use Rattle.announcing.specs.Rows.{booked}
 use Rattle.announcing.specs.Announce.{announces}
+use Rattle.announcing.proofs.Effect.{booked-sizes}
 use Rattle.hearing.specs.Station.{fairOther, recordOf}
 use Rattle.hearing.specs.Hear.{heardNumber, Lists, listsOf, recordIn as recordOfLists, hearTests, bookAfter, hearingOf, hearAnswer, hearLeft}
 use Rattle.register.specs.declared.Order.{Order}
 use Rattle.register.specs.declared.What.the-variants.{Hear}
-use Rattle.cores.specs.declared.Answer.the-variants.{Refused}
-use Rattle.cores.specs.Core.{standingOf, heardOut, leftHeard, agedOrder}
-use Rattle.promises.specs.Calls.{State, bookIn, sourcesIn}
-use Rattle.promises.proofs.Lengths.{all-holders, acted-sizes}
+use Rattle.answering.specs.declared.Answer.the-variants.{Refused}
+use Rattle.answering.specs.Answering.{standingOf, heardOut, leftHeard, agedOrder}
+use Rattle.promises.specs.Calls.{Kept, bookIn, sourcesIn}
+use Rattle.promises.proofs.Lengths.{all-holders}
 use Rattle.promises.proofs.Settled.{talliesIn, tallies-are, sources-set}
 use Rattle.promises.proofs.Staying.{leftBy, Moved, stays}
 use Rattle.promises.proofs.Moves.{Fine, HeardBy, recordIn}
 
-module _ (s : State) (f : Fine s) (x : Telling) where
+module _ (s : Kept) (f : Fine s) (x : Telling) where
   abbrev lists : Lists
   lists = listsOf (s .book) (talliesIn (s .reg)) (sourcesIn s)
 
@@ -47,7 +50,7 @@ module _ (s : State) (f : Fine s) (x : Telling) where
     held : AllHold (hearTests lists (s .watch .ship .source) x)
     unfolding hearTests
     held =
-        passed heardNumber 0 (hearTests lists (s .watch .ship .source) x) (IsHeard (hearingOf lists (standingOf (s .watch)) x)) tt refl .0
+        all-answered heardNumber (hearTests lists (s .watch .ship .source) x) (IsHeard (hearingOf lists (standingOf (s .watch)) x)) tt
         (ap heardNumber (sym e))
 
     -- so the answer is the one that is given then
@@ -70,16 +73,16 @@ module _ (s : State) (f : Fine s) (x : Telling) where
     abbrev after : Book
     after = bookAfter lists (standingOf (s .watch)) x
 
-    after-is : after ≡ acted (s .watch .present) (suc (recordIn s x)) (bookIn s) (announces (x .state))
+    after-is : after ≡ booked (s .watch .present) (suc (recordIn s x)) (announces (x .state)) (bookIn s)
     unfolding bookAfter
     after-is =
         let number : recordOfLists lists x + 1 ≡ suc (recordIn s x) = omega (arith, record-is) in
-        ap (λ (h : ℕ). acted (s .watch .present) h (bookIn s) (announces (x .state))) number
+        ap (λ (h : ℕ). booked (s .watch .present) h (announces (x .state)) (bookIn s)) number
 
     after-all : length (after .tallies) ≡ holders
     unfolding bookAfter
     after-all =
-        acted-sizes (s .watch .present) (recordOfLists lists x + 1) (bookIn s) (announces (x .state)) .1 ∙ all-holders s f
+        booked-sizes (s .watch .present) (recordOfLists lists x + 1) (announces (x .state)) (bookIn s) .1 ∙ all-holders s f
 
     known : 0 < x .source
     unfolding hearTests fairOther fairSource

@@ -11,18 +11,19 @@ use lib.ListN.{length, getD, replicate, set, length-map, getD-replicate, List·g
 use Rattle.laws.specs.Tests.{pick}
 use Rattle.laws.specs.Ranges.{some}
 use Rattle.laws.proofs.Tests.{pick-of}
-use Rattle.book.specs.Book.{slotTimes, records, ours, place, holder}
+use Rattle.limits.specs.Limits.{frameSlots, slotTimes, records}
+use Rattle.book.specs.Book.{ours, place, holder}
 use Rattle.book.specs.Pass.{Moment}
 use Rattle.book.specs.Sound.{Sound}
 use Rattle.hearing.specs.declared.Telling.{Telling}
-use Rattle.announcing.specs.Acts.{Act}
+use Rattle.announcing.specs.declared.rows.Row.{Row}
 use Rattle.announcing.specs.Announce.{announces}
-use Rattle.choosing.specs.declared.Ask.{Ask}
+use Rattle.choosing.specs.declared.Wanted.{Wanted}
 use Rattle.register.specs.declared.Station.{Station}
 use Rattle.register.specs.Register.{blank}
-use Rattle.cores.specs.declared.Slot.{Slot}
-use Rattle.promises.specs.Calls.{State, newState, afterAll, bookIn, sourcesIn}
-use Rattle.promises.specs.History.{Event, Who, pastOf, timeOf, actedOn, afterEvent, givenUp, holderOf, whoOf, whoIn, HoldersByEvents}
+use Rattle.answering.specs.declared.Slot.{Slot}
+use Rattle.promises.specs.Calls.{Kept, newState, afterAll, bookIn, sourcesIn}
+use Rattle.promises.specs.History.{Event, Who, pastOf, timeOf, afterEvent, givenUp, holderOf, whoOf, whoIn, HoldersByEvents}
 use Rattle.promises.specs.History.Event.{passed, heard, owned, planned}
 use Rattle.promises.specs.History.Who.{nobody, us}
 use Rattle.promises.proofs.Moves.{Fine, Stays, momentIn, PassedBy, recordIn, HeardBy, PlannedBy, worldIn, ChosenBy}
@@ -32,10 +33,10 @@ use Rattle.promises.proofs.Grown.{always}
 use Rattle.promises.proofs.Counted.{counted}
 use Rattle.promises.proofs.Places.{at-a-place, held-by-one, passes-present, passes-after, released-after, own-after, own-beyond}
 use Rattle.promises.proofs.Known.{Apart, Meant, who-nobody, who-us, who-given-up, meant, mine-now, who-taken, still-apart}
-use Rattle.promises.proofs.Announced.{frees-near, acted-after, acted-beyond}
+use Rattle.promises.proofs.Announced.{heard-after, heard-beyond}
 
 -- the book and the register agree with the events
-pub record Agrees (s : State) (es : List Event) : Type 0 where
+pub record Agrees (s : Kept) (es : List Event) : Type 0 where
   pub sound : Sound (bookIn s)
   pub here : s .watch .present ≡ timeOf es % slotTimes
   pub apart : Apart (sourcesIn s)
@@ -67,7 +68,7 @@ agrees-new =
 
 -- ---- whatever happens
 
-module _ (s s′ : State) (es : List Event) (p : Agrees s es) where
+module _ (s s′ : Kept) (es : List Event) (p : Agrees s es) where
   -- the present time
   abbrev u : ℕ
   u = timeOf es
@@ -114,8 +115,8 @@ module _ (s s′ : State) (es : List Event) (p : Agrees s es) where
       abbrev k : ℕ
       k = recordIn s x
 
-      abbrev acts : List Act
-      acts = announces (x .state)
+      abbrev rows : List Row
+      rows = announces (x .state)
 
       many : length sources ≡ records
       many = length-map (s .reg) (λ (r : Station). r .source) ∙ f .register
@@ -129,23 +130,21 @@ module _ (s s′ : State) (es : List Event) (p : Agrees s es) where
       mine : getD (set sources k source) k 0 ≡ source
       mine = mine-now (bookIn s) sources source (p .sound) many k (b .there) chosen
 
-      agrees-heard : Agrees s′ (heard source acts ∷ es)
-      unfolding timeOf holderOf afterEvent
+      agrees-heard : Agrees s′ (heard source rows ∷ es)
+      unfolding timeOf holderOf
       agrees-heard =
           record {
             sound = counted .hearing s s′ es x f b (p .sound);
             here = omega (arith, b .present, p .here);
             apart = subst Apart (sym (b .sources)) apart-then;
             inside = λ t from to.
-                let named = acted-after (set sources k source) apart-then source k (b .known) (b .there) mine in
+                let named = heard-after (set sources k source) apart-then source k (b .known) (b .there) mine rows in
                 let placed = at-a-place (bookIn s) (p .sound) t in
                 let before = who-taken (bookIn s) sources source (p .sound) many k (b .there) chosen (t % slotTimes) placed in
                 (λ i. whoOf (b .sources i) (holder (b .book i) (t % slotTimes)))
-                ∙ named u t (s .watch .present) (p .here) (omega arith) (omega arith) (bookIn s) acts (p .sound) (frees-near (x .state)) (b .within)
-                ∙ ap (actedOn source u t acts) (before ∙ p .inside t (omega arith) (omega arith));
-            beyond = λ t l.
-                ap (actedOn source u t acts) (p .beyond t (omega arith))
-                ∙ acted-beyond source u t acts (omega arith) (frees-near (x .state)) (b .within);
+                ∙ named u t (s .watch .present) (p .here) (omega arith) (omega arith) (bookIn s) (p .sound)
+                ∙ ap (afterEvent (heard source rows) u t) (before ∙ p .inside t (omega arith) (omega arith));
+            beyond = λ t l. ap (afterEvent (heard source rows) u t) (p .beyond t (omega arith)) ∙ heard-beyond source u t rows (b .within) (omega arith);
           }
 
     agrees-planned : PlannedBy s s′ → Agrees s′ (planned ∷ es)
@@ -156,15 +155,14 @@ module _ (s s′ : State) (es : List Event) (p : Agrees s es) where
           here = omega (arith, b .present, p .here);
           apart = subst Apart (sym (b .sources)) (p .apart);
           inside = λ t from to.
-              let after = released-after ours (bookIn s) (t % slotTimes) slotTimes (omega arith) (p .sound) in
               (λ i. whoOf (b .sources i) (holder (b .book i) (t % slotTimes)))
-              ∙ ap (whoOf sources) (after ∙ rw (lt-ltb (t % slotTimes) slotTimes (omega arith)))
+              ∙ ap (whoOf sources) (released-after ours (bookIn s) (t % slotTimes) (omega arith) (p .sound))
               ∙ who-given-up sources (holder (bookIn s) (t % slotTimes)) (held-by-one (bookIn s) (p .sound) t)
               ∙ ap givenUp (p .inside t (omega arith) (omega arith));
           beyond = λ t l. ap givenUp (p .beyond t (omega arith));
         }
 
-    agrees-chosen : (a : Ask) (c : Slot) → ChosenBy a c s s′ → Agrees s′ (owned (c .distance) (a .timeout) ∷ es)
+    agrees-chosen : (a : Wanted) (c : Slot) → ChosenBy a c s s′ → Agrees s′ (owned (c .distance) (a .timeout) ∷ es)
     unfolding timeOf holderOf afterEvent
     agrees-chosen a c b =
         record {
@@ -172,7 +170,7 @@ module _ (s s′ : State) (es : List Event) (p : Agrees s es) where
           here = omega (arith, b .present, p .here);
           apart = subst Apart (sym (b .sources)) (p .apart);
           inside = λ t from to.
-              let among = some (λ i. eqb t (u + (d + 2250 * i))) in
+              let among = some (λ i. eqb t (u + (d + frameSlots * i))) in
               let after = own-after (worldIn s) u t (s .watch .present) d (p .here) (p .sound) (omega arith) (omega arith) in
               let all : suc (a .timeout) ≡ a .timeout + 1 = omega arith in
               (λ i. whoOf (b .sources i) (holder (b .book i) (t % slotTimes)))
@@ -180,7 +178,7 @@ module _ (s s′ : State) (es : List Event) (p : Agrees s es) where
               ∙ pick-of (whoOf sources) (among (suc (a .timeout))) ours (holder (bookIn s) (t % slotTimes))
               ∙ (λ i. pick (among (all i)) (who-us sources ours refl i) (p .inside t (omega arith) (omega arith) i));
           beyond = λ t l.
-              ap (λ (y : Who). pick (some (λ i. eqb t (u + (d + 2250 * i))) (a .timeout + 1)) us y) (p .beyond t (omega arith))
+              ap (λ (y : Who). pick (some (λ i. eqb t (u + (d + frameSlots * i))) (a .timeout + 1)) us y) (p .beyond t (omega arith))
               ∙ rw (own-beyond u t d (a .timeout + 1) (omega (arith, b .within)) (omega arith));
         }
       where
@@ -200,7 +198,7 @@ agreed =
 
 -- ---- the slot time d ahead
 
-pub holder-ahead : (s : State) (es : List Event) → Agrees s es → (d : ℕ) → d < slotTimes → whoIn s d ≡ holderOf es (timeOf es + d)
+pub holder-ahead : (s : Kept) (es : List Event) → Agrees s es → (d : ℕ) → d < slotTimes → whoIn s d ≡ holderOf es (timeOf es + d)
 holder-ahead s es p d l =
     let at : place (s .watch .present) d ≡ (timeOf es + d) % slotTimes = omega (arith, p .here) in
     ap (λ (y : ℕ). whoOf (sourcesIn s) (getD (s .book) y 0)) at ∙ p .inside (timeOf es + d) (omega arith) (omega arith)

@@ -5,6 +5,7 @@ use mathlib.Core.Path.{_≡_, refl}
 use mathlib.Core.Logic.{_⊎_, inl, inr}
 use Prim.Native.Nat.{ℕ, _+_, _-_, _*_, _/_, _≤_, _<_}
 use native.Mathlib.Omega.{arith}
+use Rattle.limits.specs.Limits.{frameSlots}
 use Rattle.plan.specs.declared.Plan.{Plan}
 use Rattle.plan.specs.Plan.{InRange}
 use Rattle.plan.specs.Times.{Comes, Within, meant}
@@ -36,7 +37,7 @@ pub record MayChoose (p : Plan) (u : ℕ) (O : ℕ → Type 0) (k d : ℕ) : Typ
 pub record Repeats (x m t : ℕ) : Type 0 where
   pub frame : ℕ
   pub most : frame ≤ m
-  pub at : t ≡ x + 2250 * frame
+  pub at : t ≡ x + frameSlots * frame
 
 -- ---- nothing is ours
 
@@ -86,10 +87,10 @@ module _ (p : Plan) (u : ℕ) (O : ℕ → Type 0) (k m d : ℕ) (c : MayChoose 
   abbrev Then : ℕ → Type 0
   Then t = Repeats (u + d) m t ⊎ O t
 
-  comes-on : (i : ℕ) → Comes p k (start + 2250 * i)
+  comes-on : (i : ℕ) → Comes p k (start + frameSlots * i)
   comes-on i = record { known = c .known; starts = omega (arith, meant-is-ahead p k u (c .known) .comes .starts) }
 
-  within-on : (i t : ℕ) → t ≡ u + d + 2250 * i → Within p (start + 2250 * i) t
+  within-on : (i t : ℕ) → t ≡ u + d + frameSlots * i → Within p (start + frameSlots * i) t
   within-on i t e = record { from = omega (arith, c .picked .from); to = omega (arith, c .picked .to) }
 
   -- no coming of k from the one meant on has an own slot
@@ -99,9 +100,9 @@ module _ (p : Plan) (u : ℕ) (O : ℕ → Type 0) (k m d : ℕ) (c : MayChoose 
       c .free (v .slot) (v .within) (v .own)
 
   -- a new slot that lies in a coming of l at f: that is a coming of k, some frames after the one meant
-  new-in : (l f t : ℕ) (r : Repeats (u + d) m t) → Comes p l f → Within p f t → (l ≡ k) × (f ≡ start + 2250 * r .frame)
+  new-in : (l f t : ℕ) (r : Repeats (u + d) m t) → Comes p l f → Within p f t → (l ≡ k) × (f ≡ start + frameSlots * r .frame)
   new-in l f t r a w =
-      no-time-in-two p (c .ranged) l k f (start + 2250 * r .frame) t a (comes-on (r .frame)) w (within-on (r .frame) t (r .at))
+      no-time-in-two p (c .ranged) l k f (start + frameSlots * r .frame) t a (comes-on (r .frame)) w (within-on (r .frame) t (r .at))
 
   -- it has no old one
   beside : (l f t v : ℕ) → Repeats (u + d) m t → O v → Comes p l f → Within p f t → Within p f v → ⊥
@@ -111,7 +112,7 @@ module _ (p : Plan) (u : ℕ) (O : ℕ → Type 0) (k m d : ℕ) (c : MayChoose 
 
   then-lies : (t : ℕ) → Then t → InAWindow p t
   then-lies t (inl r) =
-      record { window = k; start = start + 2250 * r .frame; comes = comes-on (r .frame); within = within-on (r .frame) t (r .at) }
+      record { window = k; start = start + frameSlots * r .frame; comes = comes-on (r .frame); within = within-on (r .frame) t (r .at) }
   then-lies t (inr o) = s .lies t o
 
   then-one : (l f t v : ℕ) → Comes p l f → Within p f t → Within p f v → Then t → Then v → t ≡ v
@@ -125,11 +126,11 @@ module _ (p : Plan) (u : ℕ) (O : ℕ → Type 0) (k m d : ℕ) (c : MayChoose 
       let e = new-in l f t r a w in
       let from : start ≤ g = rw (e .0) at n in
       let comes : Comes p k g = rw (e .0) at b in
-      let j = (g - start) / 2250 in
-      let h : start + 2250 * j ≡ g = omega (arith, comes .starts, comes-on 0 .starts) in
+      let j = (g - start) / frameSlots in
+      let h : start + frameSlots * j ≡ g = omega (arith, comes .starts, comes-on 0 .starts) in
       record {
-        slot = u + d + 2250 * j;
-        within = rw h at (within-on j (u + d + 2250 * j) refl);
+        slot = u + d + frameSlots * j;
+        within = rw h at (within-on j (u + d + frameSlots * j) refl);
         own = inl (record { frame = j; most = omega (arith, e .1, r .most); at = refl });
       }
   then-filled l f g t a b n y w (inr o) =

@@ -11,16 +11,17 @@ use borrow.Author.Tests.{eq-eqb, ne-eqb}
 use lib.ListN.{length, getD, set, drop}
 use lib.Seq.{getD-set-same, getD-set-other, set-getD, getD-take, getD-drop}
 use Rattle.laws.proofs.Counting.{hit-same, count-at}
-use Rattle.book.specs.Book.{Book, records, ours, holders, holder, talliesOf}
+use Rattle.limits.specs.Limits.{records}
+use Rattle.book.specs.Book.{Book, ours, holders, holder, talliesOf}
 use Rattle.book.specs.Sound.{Sound}
 use Rattle.book.proofs.Steps.{kept-own, kept-other}
 use Rattle.book.proofs.Lengths.{all-records}
+use Rattle.announcing.proofs.Effect.{markedFor, freedOf}
 use Rattle.hearing.specs.Station.{recordOf}
 use Rattle.hearing.specs.Promises.{First}
 use Rattle.hearing.proofs.Promised.{record-lowest}
 use Rattle.promises.specs.History.{markedBy, freedBy, givenUp, whoOf}
 use Rattle.promises.specs.History.Who.{nobody, us, station}
-use Rattle.promises.proofs.Places.{markedFor, freedOf}
 
 -- ---- a holder number
 

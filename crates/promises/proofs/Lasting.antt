@@ -5,12 +5,14 @@ use Prim.Native.Nat.{ℕ, suc, _<_}
 use native.Mathlib.Omega.{arith}
 use lib.ListN.{length, length-map, length-set, length-replicate}
 use Rattle.laws.proofs.Upto.{upto-keeps}
-use Rattle.book.specs.Book.{Book, slotTimes, records, ours}
+use Rattle.limits.specs.Limits.{slotTimes, records}
+use Rattle.book.specs.Book.{Book, ours}
 use Rattle.book.specs.Pass.{Moment, passed, passes}
 use Rattle.book.proofs.Lengths.{SameSizes, released-sizes, passes-sizes}
 use Rattle.announcing.specs.Announce.{announces}
-use Rattle.promises.specs.Calls.{State, newState, bookIn, sourcesIn}
-use Rattle.promises.proofs.Lengths.{acted-sizes, frames-sizes}
+use Rattle.announcing.proofs.Effect.{booked-sizes}
+use Rattle.promises.specs.Calls.{Kept, newState, bookIn, sourcesIn}
+use Rattle.promises.proofs.Lengths.{frames-sizes}
 use Rattle.promises.proofs.Moves.{Fine, momentIn, recordIn, worldIn}
 use Rattle.promises.proofs.Stands.{Stands}
 
@@ -36,7 +38,7 @@ now-below : (m : Moment) (n : ℕ) → m .present < slotTimes → passes m n .pr
 unfolding passed
 now-below m n l = upto-keeps _ m (λ (x : Moment). x .present < slotTimes) n (λ x i k e. omega arith) l
 
-module _ (s s′ : State) (f : Fine s) where
+module _ (s s′ : Kept) (f : Fine s) where
   -- as many records as sources, and as many slot times as in a book of the same sizes
   fine-by : (b : Book) → length (sourcesIn s′) ≡ length (sourcesIn s) → bookIn s′ ≡ b → SameSizes b (bookIn s) → s′ .watch .present < slotTimes
       → Fine s′
@@ -63,7 +65,7 @@ lasting =
       staying = λ s s′ es b p. fine-now s s′ p (bookIn s) (ap length (b .sources)) (b .book) (refl, refl) (b .present);
       hearing = λ s s′ es x f b p.
           let sources = ap length (b .sources) ∙ length-set (sourcesIn s) (recordIn s x) (x .source) in
-          let sizes = acted-sizes (s .watch .present) (suc (recordIn s x)) (bookIn s) (announces (x .state)) in
+          let sizes = booked-sizes (s .watch .present) (suc (recordIn s x)) (announces (x .state)) (bookIn s) in
           fine-now s s′ f _ sources (b .book) sizes (b .present);
       planning = λ s s′ es f b p.
           fine-now s s′ f _ (ap length (b .sources)) (b .book) (released-sizes ours (bookIn s) slotTimes) (b .present);

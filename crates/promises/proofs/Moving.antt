@@ -6,11 +6,11 @@ use Prim.Native.Nat.{ℕ}
 use borrow.Author.Tests.{eq-eqb}
 use lib.ListN.{length, replicate}
 use Rattle.laws.specs.Counting.{sum}
+use Rattle.limits.specs.Limits.{slotTimes, records}
 use Rattle.ship.specs.declared.Owned.{Owned}
 use Rattle.ship.specs.declared.Owned.the-variants.{Done as IsSet, Refused as NotSet}
 use Rattle.ship.specs.declared.Ship.{Ship}
 use Rattle.ship.specs.Ship.{ownAnswer}
-use Rattle.book.specs.Book.{slotTimes, records}
 use Rattle.hearing.specs.declared.Told.the-variants.{Station as Told, Refused as NotTold}
 use Rattle.reporting.specs.declared.Reported.{Reported}
 use Rattle.reporting.specs.declared.Reported.the-variants.{Done as IsReported, Refused as NotReported}
@@ -20,9 +20,9 @@ use Rattle.register.specs.declared.What.{What}
 use Rattle.register.specs.declared.What.the-variants.{Nothing, Hear, Plan, Own, Choose, Report, New, Sum}
 use Rattle.register.specs.Register.{blank, newWatch, wordOf}
 use Rattle.register.specs.Sheet.{Out}
-use Rattle.cores.specs.declared.Reply.{Reply}
-use Rattle.cores.specs.declared.Answer.the-variants.{Passed, Set, Report as Told·Report, Refused, Sum as Summed}
-use Rattle.cores.specs.Core.{
+use Rattle.answering.specs.declared.Reply.{Reply}
+use Rattle.answering.specs.declared.Answer.the-variants.{Passed, Set, Report as Told·Report, Refused, Sum as Summed}
+use Rattle.answering.specs.Answering.{
   leaving,
   begunOut,
   setOut,
@@ -39,7 +39,7 @@ use Rattle.cores.specs.Core.{
   reportCore,
   sumOut,
 }
-use Rattle.promises.specs.Calls.{State, newState, outOf, afterCall}
+use Rattle.promises.specs.Calls.{Kept, newState, outOf, afterCall}
 use Rattle.promises.proofs.Settled.{talliesIn, all-new}
 use Rattle.promises.proofs.Ended.{stateIn, wordsIn, coreIn, ended-at-once}
 use Rattle.promises.proofs.Moves.{Fine, MovedBy}
@@ -48,7 +48,7 @@ use Rattle.promises.proofs.Hearing.{hear-moves}
 use Rattle.promises.proofs.Planning.{plan-moves}
 use Rattle.promises.proofs.Choosing.{choose-moves}
 
-module _ (s : State) (f : Fine s) where
+module _ (s : Kept) (f : Fine s) where
   abbrev us : List ℕ
   us = talliesIn (s .reg)
 
@@ -85,7 +85,7 @@ module _ (s : State) (f : Fine s) where
   core-moves Sum =
       rw (eq-eqb (length (s .book)) slotTimes (f .book)) (stays s f (s .watch) (Summed (sum us)) (wordsIn s 0 Sum) refl refl)
 
-pub moved : (s : State) (q : What) → Fine s
+pub moved : (s : Kept) (q : What) → Fine s
     → MovedBy (outOf s (record { passes = 0; what = q }) .answer .answer) q s (afterCall s (record { passes = 0; what = q }))
 unfolding afterCall
 moved s q f =

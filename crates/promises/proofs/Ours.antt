@@ -2,22 +2,23 @@
 -- Assumes nothing.
 use mathlib.Core.Path.{_≡_, refl, sym, _∙_}
 use mathlib.Core.Bool.{Bool, true, false, true≢false}
-use mathlib.Core.List.{List, [], _∷_}
+use mathlib.Core.List.{List, _∷_}
 use mathlib.Core.Logic.{_⊎_, inl, inr}
 use Prim.Native.Nat.{ℕ, _+_, _-_, _*_}
 use native.Mathlib.Omega.{arith}
 use borrow.Author.Tests.{eq-eqb, eqb-true}
-use lib.Dec.{eqb}
+use lib.Dec.{eqb, leb}
 use lib.ListN.{getD}
 use Rattle.laws.specs.Tests.{pick}
 use Rattle.laws.specs.Ranges.{some}
 use Rattle.laws.proofs.Tests.{never, pick-is}
 use Rattle.laws.proofs.Ranges.{some-hit, some-passes}
+use Rattle.limits.specs.Limits.{frameSlots}
 use Rattle.book.specs.Book.{ours}
-use Rattle.choice.specs.Slot.{isOwn}
-use Rattle.announcing.specs.Acts.{Act}
-use Rattle.announcing.specs.Acts.Act.{mark, free}
-use Rattle.promises.specs.History.{Event, Who, markedBy, freedBy, givenUp, actedOn, afterEvent, holderOf, timeOf, whoOf}
+use Rattle.candidates.specs.Slot.{isOwn}
+use Rattle.announcing.specs.declared.rows.Row.{Row}
+use Rattle.announcing.specs.Rows.{marksTime, freesTime}
+use Rattle.promises.specs.History.{Event, Who, markedBy, freedBy, givenUp, freedIn, reported, afterEvent, holderOf, timeOf, whoOf}
 use Rattle.promises.specs.History.Event.{heard, owned, planned}
 use Rattle.promises.specs.History.Who.{nobody, us, station}
 use Rattle.promises.proofs.Keeping.{Repeats}
@@ -48,17 +49,19 @@ us-freed s nobody = refl
 us-freed s us = refl
 us-freed s (station x) = us-picked (eqb x s) nobody (station x) refl
 
-us-acted : (s u t : ℕ) (l : List Act) (y : Who) → isUs (actedOn s u t l y) ≡ isUs y
-unfolding actedOn
-us-acted s u t [] y = refl
-us-acted s u t (mark d ∷ l) y =
-    us-acted s u t l (pick (eqb t (u + d)) (markedBy s y) y) ∙ us-picked (eqb t (u + d)) (markedBy s y) y (us-marked s y)
-us-acted s u t (free d ∷ l) y =
-    us-acted s u t l (pick (eqb t (u + d)) (freedBy s y) y) ∙ us-picked (eqb t (u + d)) (freedBy s y) y (us-freed s y)
+us-freed-in : (s : ℕ) (rows : List Row) (d : ℕ) (y : Who) → isUs (freedIn s rows d y) ≡ isUs y
+unfolding freedIn
+us-freed-in s rows d y = us-picked (freesTime rows d) (freedBy s y) y (us-freed s y)
 
-pub us-heard : (s : ℕ) (l : List Act) (es : List Event) (t : ℕ) → isUs (holderOf (heard s l ∷ es) t) ≡ isUs (holderOf es t)
+us-reported : (s : ℕ) (rows : List Row) (d : ℕ) (y : Who) → isUs (reported s rows d y) ≡ isUs y
+unfolding reported
+us-reported s rows d y =
+    let z = freedIn s rows d y in
+    us-picked (marksTime rows d) (markedBy s z) z (us-marked s z) ∙ us-freed-in s rows d y
+
+pub us-heard : (s : ℕ) (rows : List Row) (es : List Event) (t : ℕ) → isUs (holderOf (heard s rows ∷ es) t) ≡ isUs (holderOf es t)
 unfolding holderOf afterEvent
-us-heard s l es t = us-acted s (timeOf es) t l (holderOf es t)
+us-heard s rows es t = us-picked (leb (timeOf es) t) _ (holderOf es t) (us-reported s rows (t - timeOf es) (holderOf es t))
 
 -- ---- a plan was set: nothing is ours
 
@@ -76,7 +79,7 @@ none-planned es t o = true≢false (sym o ∙ us-given-up (holderOf es t))
 
 module _ (d m : ℕ) (es : List Event) (t : ℕ) where
   abbrev hits : ℕ → Bool
-  hits i = eqb t (timeOf es + (d + 2250 * i))
+  hits i = eqb t (timeOf es + (d + frameSlots * i))
 
   pub own-before : Own (owned d m ∷ es) t → Repeats (timeOf es + d) m t ⊎ Own es t
   unfolding holderOf afterEvent
@@ -85,13 +88,13 @@ module _ (d m : ℕ) (es : List Event) (t : ℕ) where
       go : (b : Bool) → some hits (m + 1) ≡ b → isUs (pick b us (holderOf es t)) ≡ true → Repeats (timeOf es + d) m t ⊎ Own es t
       go true e q =
           let r = some-passes hits (m + 1) e in
-          inl (record { frame = r .0; most = omega (arith, r .1 .0); at = omega (arith, eqb-true t (timeOf es + (d + 2250 * r .0)) (r .1 .1)) })
+          inl (record { frame = r .0; most = omega (arith, r .1 .0); at = omega (arith, eqb-true t (timeOf es + (d + frameSlots * r .0)) (r .1 .1)) })
       go false e q = inr q
 
   pub own-then : Repeats (timeOf es + d) m t ⊎ Own es t → Own (owned d m ∷ es) t
   unfolding holderOf afterEvent
   own-then (inl r) =
-      let hit : hits (r .frame) ≡ true = eq-eqb t (timeOf es + (d + 2250 * r .frame)) (omega (arith, r .at)) in
+      let hit : hits (r .frame) ≡ true = eq-eqb t (timeOf es + (d + frameSlots * r .frame)) (omega (arith, r .at)) in
       rw (← (some-hit hits (r .frame) (m + 1) (omega (arith, r .most)) hit))
   own-then (inr o) = go (some hits (m + 1))
     where

@@ -4,21 +4,22 @@ use mathlib.Core.Path.{_≡_, refl, sym, ap, subst, _∙_}
 use Prim.Native.Nat.{ℕ}
 use borrow.Author.Tests.{eq-eqb}
 use lib.ListN.{length}
-use Rattle.book.specs.Book.{slotTimes, holders, bookOf, countsOf, talliesOf}
+use Rattle.limits.specs.Limits.{slotTimes}
+use Rattle.book.specs.Book.{holders, bookOf, countsOf, talliesOf}
 use Rattle.book.specs.Pass.{Moment}
 use Rattle.book.proofs.Once.{parts-make}
 use Rattle.book.proofs.Lengths.{all-records, passes-sizes}
 use Rattle.register.specs.declared.What.the-variants.{Nothing}
 use Rattle.register.specs.Register.{settle}
 use Rattle.register.specs.Sheet.{settledBy}
-use Rattle.cores.specs.Core.{nothing, watchWith, passedOut, agedOrder}
-use Rattle.promises.specs.Calls.{State, afterCall}
+use Rattle.answering.specs.Answering.{nothing, watchWith, passedOut, agedOrder}
+use Rattle.promises.specs.Calls.{Kept, afterCall}
 use Rattle.promises.proofs.Lengths.{all-holders}
 use Rattle.promises.proofs.Settled.{tallies-are, sources-stay}
 use Rattle.promises.proofs.Ended.{stateIn, wordsIn, moment, ended}
 use Rattle.promises.proofs.Moves.{Fine, momentIn, PassedBy}
 
-module _ (s : State) (n : ℕ) (f : Fine s) where
+module _ (s : Kept) (n : ℕ) (f : Fine s) where
   abbrev then : Moment
   then = moment s n
 
@@ -27,7 +28,7 @@ module _ (s : State) (n : ℕ) (f : Fine s) where
       let same = passes-sizes (momentIn s) n in
       (same .0 ∙ f .book, same .1 ∙ all-holders s f)
 
-  abbrev left : State
+  abbrev left : Kept
   left = record {
     reg = settledBy (settle (agedOrder n nothing)) (talliesOf (then .book)) (wordsIn s n Nothing) (s .reg);
     book = then .book .slots;
@@ -53,5 +54,5 @@ module _ (s : State) (n : ℕ) (f : Fine s) where
         plan = refl;
       }
 
-pub passed : (s : State) (n : ℕ) → Fine s → PassedBy n s (afterCall s (record { passes = n; what = Nothing }))
+pub passed : (s : Kept) (n : ℕ) → Fine s → PassedBy n s (afterCall s (record { passes = n; what = Nothing }))
 passed s n f = subst (PassedBy n s) (sym (left-is s n f)) (passed-left s n f)

@@ -6,11 +6,12 @@ use mathlib.Core.List.{List}
 use Prim.Native.Nat.{ℕ}
 use lib.ListN.{length}
 use Rattle.laws.proofs.Ladder.{all-through}
+use Rattle.limits.specs.Limits.{slotTimes}
 use Rattle.plan.specs.Plan.{InRange}
 use Rattle.book.specs.declared.planning.Planned.{Planned}
 use Rattle.book.specs.declared.planning.Planned.the-variants.{Done as IsPlanned, Refused as NotPlanned}
 use Rattle.book.specs.declared.planning.Replanned.{Replanned}
-use Rattle.book.specs.Book.{Book, slotTimes, ours, holders, bookOf, countsOf, talliesOf, released}
+use Rattle.book.specs.Book.{Book, ours, holders, bookOf, countsOf, talliesOf, released}
 use Rattle.book.specs.Planning.{plannedNumber, planFits, planTests, replanned, planAnswer, planLeft}
 use Rattle.book.specs.Sizes.{sized}
 use Rattle.book.proofs.Once.{parts-make}
@@ -19,15 +20,15 @@ use Rattle.book.proofs.Plans.{in-range}
 use Rattle.book.proofs.Lengths.{all-records, released-sizes}
 use Rattle.register.specs.declared.Rate.{Rate}
 use Rattle.register.specs.declared.What.the-variants.{Plan}
-use Rattle.cores.specs.declared.Answer.the-variants.{Refused}
-use Rattle.cores.specs.Core.{nothing, plannedOut, leftPlanned}
-use Rattle.promises.specs.Calls.{State, bookIn}
+use Rattle.answering.specs.declared.Answer.the-variants.{Refused}
+use Rattle.answering.specs.Answering.{nothing, plannedOut, leftPlanned}
+use Rattle.promises.specs.Calls.{Kept, bookIn}
 use Rattle.promises.proofs.Lengths.{all-holders}
 use Rattle.promises.proofs.Settled.{talliesIn, tallies-are, sources-stay}
 use Rattle.promises.proofs.Staying.{leftBy, Moved, stays}
 use Rattle.promises.proofs.Moves.{Fine, PlannedBy}
 
-module _ (s : State) (f : Fine s) (q : Rate) (vs : List ℕ) where
+module _ (s : Kept) (f : Fine s) (q : Rate) (vs : List ℕ) where
   abbrev us : List ℕ
   us = talliesIn (s .reg)
 
@@ -50,7 +51,8 @@ module _ (s : State) (f : Fine s) (q : Rate) (vs : List ℕ) where
   module _ (d : Replanned) (e : IsPlanned d ≡ answer) where
     -- every test held
     held : (sized (s .book) us ≡ true) × (planFits (q .rate) (q .start) ≡ true)
-    held = plan-exactly (s .book) us (s .watch .channel .counts) (q .rate) (q .start) .given-0 .0 (ap plannedNumber (sym e))
+    unfolding planTests
+    held = plan-exactly (s .book) us (s .watch .channel .counts) (q .rate) (q .start) .none .0 (ap plannedNumber (sym e))
 
     abbrev made : Replanned
     made = record { counts = countsOf after; plan = record { rate = q .rate; start = q .start } }

@@ -11,7 +11,7 @@ use lib.Dec.{eqb}
 use lib.ListN.{length, getD, set, replicate, length-map, length-set}
 use lib.Seq.{ext-getD, getD-set-other}
 use Rattle.laws.specs.Tests.{pick}
-use Rattle.book.specs.Book.{records}
+use Rattle.limits.specs.Limits.{records}
 use Rattle.register.specs.declared.Station.{Station}
 use Rattle.register.specs.declared.Order.{Order}
 use Rattle.register.specs.Register.{blank, kept, entered, changed, settle}

@@ -7,22 +7,22 @@ use lib.ListN.{length-map}
 use Rattle.book.specs.Book.{bookOf}
 use Rattle.register.specs.declared.Watch.{Watch}
 use Rattle.register.specs.declared.What.{What}
-use Rattle.cores.specs.declared.Answer.{Answer}
-use Rattle.cores.specs.Core.{Core, nothing, outWith, leaving, agedCore}
-use Rattle.promises.specs.Calls.{State}
+use Rattle.answering.specs.declared.Answer.{Answer}
+use Rattle.answering.specs.Answering.{Core, nothing, outWith, leaving, agedCore}
+use Rattle.promises.specs.Calls.{Kept}
 use Rattle.promises.proofs.Settled.{talliesIn, tallies-are, sources-stay}
 use Rattle.promises.proofs.Ended.{ends, stateIn}
 use Rattle.promises.proofs.Moves.{Fine, Stays, MovedBy}
 
 -- the state that a core leaves
-abbrev pub leftBy : State → Core → State
+abbrev pub leftBy : Kept → Core → Kept
 leftBy s k = stateIn (ends s (agedCore 0 k))
 
 -- that what a core leaves is what its answer says
-abbrev pub Moved : State → What → Core → Type 0
+abbrev pub Moved : Kept → What → Core → Type 0
 Moved s q k = MovedBy (k .answer .answer) q s (leftBy s k)
 
-pub stays : (s : State) → Fine s → (w : Watch) (a : Answer) (vs : List ℕ) → w .present ≡ s .watch .present → w .channel ≡ s .watch .channel
+pub stays : (s : Kept) → Fine s → (w : Watch) (a : Answer) (vs : List ℕ) → w .present ≡ s .watch .present → w .channel ≡ s .watch .channel
     → Stays s (leftBy s (leaving (outWith nothing w a) (talliesIn (s .reg)) vs (s .book)))
 stays s f w a vs now channel =
     let us = talliesIn (s .reg) in

@@ -5,7 +5,7 @@ use Rattle.plan.specs.Plan.{along, nominal, half, slots, floorGap, ceilGap, aft
 use Rattle.plan.specs.Examples.{gapsOf, figures}
 use Rattle.message.specs.Signs.{signedOf}
 use Rattle.message.specs.State.{slotsOf, distanceOf}
-use Rattle.choice.proofs.Examples.{marked-examples as choices}
+use Rattle.candidates.proofs.Examples.{marked-examples as choices}
 use Rattle.promises.specs.Examples.{
   AllHold,
   example1,

@@ -7,17 +7,17 @@ use Prim.Native.Nat.{ℕ, _+_, _-_, _%_, _<_}
 use native.Mathlib.Omega.{arith}
 use Rattle.laws.proofs.Tests.{never}
 use Rattle.laws.proofs.Ranges.{some-hit}
+use Rattle.limits.specs.Limits.{frameSlots, slotTimes, records}
 use Rattle.plan.specs.declared.Plan.{Plan}
 use Rattle.plan.specs.Plan.{InRange, first, slots, onward}
 use Rattle.plan.specs.Times.{Within, meant}
 use Rattle.plan.proofs.Gaps.{half-most}
-use Rattle.book.specs.Book.{slotTimes, records}
-use Rattle.choice.specs.Slot.{isOwn, holderAt}
-use Rattle.announcing.specs.Acts.{Act}
-use Rattle.choosing.specs.declared.Ask.{Ask}
+use Rattle.candidates.specs.Slot.{isOwn, holderAt}
+use Rattle.announcing.specs.declared.rows.Row.{Row}
+use Rattle.choosing.specs.declared.Wanted.{Wanted}
 use Rattle.choosing.specs.Choosing.{windowMeant, anyOwn}
-use Rattle.cores.specs.declared.Slot.{Slot}
-use Rattle.promises.specs.Calls.{State, newState, afterAll, sourcesIn}
+use Rattle.answering.specs.declared.Slot.{Slot}
+use Rattle.promises.specs.Calls.{Kept, newState, afterAll, sourcesIn}
 use Rattle.promises.specs.History.{Event, pastOf, timeOf, afterEvent, holderOf}
 use Rattle.promises.specs.History.Event.{passed, heard, owned, planned}
 use Rattle.promises.specs.Windows.{planIn, OursAt, OwnInWindows}
@@ -29,46 +29,46 @@ use Rattle.promises.proofs.Keeping.{Keeps, MayChoose, keeps-none, keeps
 use Rattle.promises.proofs.Ours.{isUs, Own, us-heard, none-planned, own-before, own-then, own-number}
 
 -- the plan is none or in its range, and what is ours by the events keeps to it
-record Kept (p : Plan) (es : List Event) : Type 0 where
+record OnPlan (p : Plan) (es : List Event) : Type 0 where
   pub ranged : 0 < p .rate → InRange p
   pub keeps : Keeps p (timeOf es) (Own es)
 
 -- ---- event by event
 
-kept-new : (n m : ℕ) → Kept (planIn (newState n m)) []
+kept-new : (n m : ℕ) → OnPlan (planIn (newState n m)) []
 unfolding newState holderOf
 kept-new n m = record { ranged = λ l. absurd (omega arith); keeps = keeps-none _ _ _ (λ t o. never o) }
 
-module _ (p : Plan) (es : List Event) (k : Kept p es) where
-  kept-passed : (n : ℕ) → Kept p (passed n ∷ es)
+module _ (p : Plan) (es : List Event) (k : OnPlan p es) where
+  kept-passed : (n : ℕ) → OnPlan p (passed n ∷ es)
   unfolding timeOf holderOf afterEvent
   kept-passed n = record { ranged = k .ranged; keeps = keeps-on p (timeOf es) _ _ (omega arith) (k .keeps) }
 
-  kept-heard : (s : ℕ) (l : List Act) → Kept p (heard s l ∷ es)
+  kept-heard : (s : ℕ) (rows : List Row) → OnPlan p (heard s rows ∷ es)
   unfolding timeOf
-  kept-heard s l =
-      let same = us-heard s l es in
-      let on = keeps-alike p (timeOf es) (Own es) (Own (heard s l ∷ es)) (λ t o. sym (same t) ∙ o) (λ t o. same t ∙ o) (k .keeps) in
+  kept-heard s rows =
+      let same = us-heard s rows es in
+      let on = keeps-alike p (timeOf es) (Own es) (Own (heard s rows ∷ es)) (λ t o. sym (same t) ∙ o) (λ t o. same t ∙ o) (k .keeps) in
       record { ranged = k .ranged; keeps = keeps-on p (timeOf es) _ _ (omega arith) on }
 
-  kept-owned : (j d m : ℕ) → MayChoose p (timeOf es) (Own es) j d → Kept p (owned d m ∷ es)
+  kept-owned : (j d m : ℕ) → MayChoose p (timeOf es) (Own es) j d → OnPlan p (owned d m ∷ es)
   unfolding timeOf
   kept-owned j d m c =
       let on = keeps-alike p (timeOf es) _ _ (own-before d m es) (own-then d m es) (keeps-choose p (timeOf es) (Own es) j m d c (k .keeps)) in
       record { ranged = k .ranged; keeps = keeps-on p (timeOf es) _ _ (omega arith) on }
 
-kept-planned : (p : Plan) (es : List Event) → InRange p → Kept p (planned ∷ es)
+kept-planned : (p : Plan) (es : List Event) → InRange p → OnPlan p (planned ∷ es)
 kept-planned p es r = record { ranged = λ l. r; keeps = keeps-none p _ _ (none-planned es) }
 
 -- ---- a choice in the book is one by the events
 
-module _ (s s′ : State) (es : List Event) (h : Agrees s es) (a : Ask) (c : Slot) (b : ChosenBy a c s s′) where
+module _ (s s′ : Kept) (es : List Event) (h : Agrees s es) (a : Wanted) (c : Slot) (b : ChosenBy a c s s′) where
   abbrev ahead : ℕ
-  ahead = onward (s .watch .present % 2250) (first (planIn s) (a .k))
+  ahead = onward (s .watch .present % frameSlots) (first (planIn s) (a .k))
 
   ahead-is : timeOf es + ahead ≡ meant (planIn s) (a .k) (timeOf es)
   unfolding meant
-  ahead-is = let e : s .watch .present % 2250 ≡ timeOf es % 2250 = omega (arith, h .here) in rw e
+  ahead-is = let e : s .watch .present % frameSlots ≡ timeOf es % frameSlots = omega (arith, h .here) in rw e
 
   picked : Within (planIn s) (meant (planIn s) (a .k) (timeOf es)) (timeOf es + c .distance)
   unfolding windowMeant slots
@@ -89,11 +89,11 @@ module _ (s s′ : State) (es : List Event) (h : Agrees s es) (a : Ask) (c : Slo
 
 -- ---- whatever happens
 
-same-plan : (s s′ : State) (es : List Event) → planIn s′ ≡ planIn s → Kept (planIn s) es → Kept (planIn s′) es
-same-plan s s′ es e = subst (λ (p : Plan). Kept p es) (sym e)
+same-plan : (s s′ : Kept) (es : List Event) → planIn s′ ≡ planIn s → OnPlan (planIn s) es → OnPlan (planIn s′) es
+same-plan s s′ es e = subst (λ (p : Plan). OnPlan p es) (sym e)
 
 -- together with the holders, by which a choice is one by the events
-kept : Stands (λ s es. Agrees s es × Kept (planIn s) es)
+kept : Stands (λ s es. Agrees s es × OnPlan (planIn s) es)
 kept =
     record {
       new = (agreed .new, kept-new slotTimes records);

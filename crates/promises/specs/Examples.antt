@@ -6,20 +6,20 @@ use mathlib.Core.List.{List, [], _∷_}
 use lib.IntN.{negsuc}
 use lib.ListN.{length, getD}
 use Rattle.laws.specs.Ranges.{howMany}
+use Rattle.limits.specs.Limits.{records}
 use Rattle.plan.specs.declared.Plan.{Plan}
 use Rattle.plan.specs.Plan.{nominal}
 use Rattle.plan.specs.Examples.{gapsOf, figures}
 use Rattle.message.specs.declared.state.Incremental.{Incremental}
 use Rattle.message.specs.Signs.{signedOf}
 use Rattle.message.specs.State.{slotsOf, distanceOf}
-use Rattle.book.specs.Book.{records}
 use Rattle.distance.specs.Distance.{never}
-use Rattle.choice.specs.declared.Window.{Window}
-use Rattle.choice.specs.declared.Picked.the-variants.{At, SentBack, NoCandidate}
-use Rattle.choice.specs.declared.State.the-variants.{Free, Far}
-use Rattle.choice.specs.Window.{candidates, picked, isAt}
-use Rattle.choice.specs.Choice.{candidatesIn, choice}
-use Rattle.choice.specs.Promises.{Candidate, stateIn, worthsOf}
+use Rattle.candidates.specs.declared.Window.{Window}
+use Rattle.candidates.specs.declared.Picked.the-variants.{At, SentBack, NoCandidate}
+use Rattle.candidates.specs.declared.SlotState.the-variants.{Free, Far}
+use Rattle.candidates.specs.Window.{candidates, picked, isAt}
+use Rattle.candidates.specs.Choice.{candidatesIn, choice}
+use Rattle.candidates.specs.Promises.{Candidate, stateIn, worthsOf}
 
 -- a list of claims, and that all of them hold
 pub data Claims : Type 1 where

@@ -3,29 +3,30 @@
 use Prim.Native.Nat.{ℕ, _+_, _-_, _*_, _<_}
 use mathlib.Core.Path.{_≡_}
 use mathlib.Core.List.{List, [], _∷_}
-use lib.Dec.{eqb}
+use lib.Dec.{eqb, leb}
 use lib.ListN.{getD}
 use Rattle.laws.specs.Tests.{pick}
 use Rattle.laws.specs.Ranges.{some}
-use Rattle.book.specs.Book.{slotTimes, ours, place}
+use Rattle.limits.specs.Limits.{frameSlots, slotTimes}
+use Rattle.book.specs.Book.{ours, place}
 use Rattle.hearing.specs.declared.Told.{Told}
 use Rattle.hearing.specs.declared.Told.the-variants.{Station as Told·Station, Refused as NotTold}
-use Rattle.announcing.specs.Acts.{Act}
-use Rattle.announcing.specs.Acts.Act.{mark, free}
+use Rattle.announcing.specs.declared.rows.Row.{Row}
+use Rattle.announcing.specs.Rows.{marksTime, freesTime}
 use Rattle.announcing.specs.Announce.{announces}
 use Rattle.register.specs.declared.What.{What}
 use Rattle.register.specs.declared.What.the-variants.{Nothing, Hear, Plan, Own, Choose, Report, New, Sum}
-use Rattle.cores.specs.declared.Answer.{Answer}
-use Rattle.cores.specs.declared.Answer.the-variants.{Begun, Passed, Heard, Planned, Set, Chosen, Report as Reported, Refused, Sum as Summed}
-use Rattle.promises.specs.Calls.{State, Call, outOf, afterAll, sourcesIn}
+use Rattle.answering.specs.declared.Answer.{Answer}
+use Rattle.answering.specs.declared.Answer.the-variants.{Begun, Passed, Heard, Planned, Set, Chosen, Report as Reported, Refused, Sum as Summed}
+use Rattle.promises.specs.Calls.{Kept, Call, outOf, afterAll, sourcesIn}
 
 -- ---- events
 
 pub data Event : Type 0 where
   -- so many slots passed
   passed : ℕ → Event
-  -- the station with this source was heard: it marks and frees slot times, each so far ahead
-  heard : ℕ → List Act → Event
+  -- the station with this source was heard: it marks and frees slot times, by rows of them
+  heard : ℕ → List Row → Event
   -- a slot so far ahead became ours, and in so many frames after it
   owned : ℕ → ℕ → Event
   -- a plan was set, and our marks were given up
@@ -100,7 +101,7 @@ givenUp (station x) = station x
 -- slot times are counted since the book was new: so many slots have passed
 abbrev pub passesIn : Event → ℕ
 passesIn (passed n) = n
-passesIn (heard s l) = 0
+passesIn (heard s rows) = 0
 passesIn (owned d m) = 0
 passesIn planned = 0
 
@@ -108,16 +109,18 @@ unfoldable pub timeOf : List Event → ℕ
 timeOf [] = 0
 timeOf (e ∷ es) = passesIn e + timeOf es
 
--- the slot time t, held by y before, after the acts of the station s at the time u
-unfoldable pub actedOn : ℕ → ℕ → ℕ → List Act → Who → Who
-actedOn s u t [] y = y
-actedOn s u t (mark d ∷ l) y = actedOn s u t l (pick (eqb t (u + d)) (markedBy s y) y)
-actedOn s u t (free d ∷ l) y = actedOn s u t l (pick (eqb t (u + d)) (freedBy s y) y)
+-- the time d ahead, held by y before, after a report of the station s: what its rows free is freed, and then what they mark is marked
+unfoldable pub freedIn : ℕ → List Row → ℕ → Who → Who
+freedIn s rows d y = pick (freesTime rows d) (freedBy s y) y
 
+unfoldable pub reported : ℕ → List Row → ℕ → Who → Who
+reported s rows d y = pick (marksTime rows d) (markedBy s (freedIn s rows d y)) (freedIn s rows d y)
+
+-- the slot time t, held by y before, after an event at the time u
 unfoldable pub afterEvent : Event → ℕ → ℕ → Who → Who
 afterEvent (passed n) u t y = y
-afterEvent (heard s l) u t y = actedOn s u t l y
-afterEvent (owned d m) u t y = pick (some (λ i. eqb t (u + (d + 2250 * i))) (m + 1)) us y
+afterEvent (heard s rows) u t y = pick (leb u t) (reported s rows (t - u) y) y
+afterEvent (owned d m) u t y = pick (some (λ i. eqb t (u + (d + frameSlots * i))) (m + 1)) us y
 afterEvent planned u t y = givenUp y
 
 unfoldable pub holderOf : List Event → ℕ → Who
@@ -131,7 +134,7 @@ unfoldable pub whoOf : List ℕ → ℕ → Who
 whoOf sources x = pick (eqb x 0) nobody (pick (eqb x ours) us (station (getD sources (x - 1) 0)))
 
 -- who holds the slot time d ahead, in the book and the register
-abbrev pub whoIn : State → ℕ → Who
+abbrev pub whoIn : Kept → ℕ → Who
 whoIn s d = whoOf (sourcesIn s) (getD (s .book) (place (s .watch .present) d) 0)
 
 abbrev pub HoldersByEvents : Type 0

@@ -3,15 +3,15 @@
 use Prim.Native.Nat.{ℕ, _+_, _-_, _*_, _≤_, _<_}
 use mathlib.Core.Path.{_≡_}
 use mathlib.Core.List.{List}
+use Rattle.limits.specs.Limits.{slotTimes}
 use Rattle.plan.specs.declared.Plan.{Plan}
 use Rattle.plan.specs.Plan.{half, floorGap, ceilGap}
 use Rattle.plan.specs.Times.{Comes, Within, Next}
-use Rattle.book.specs.Book.{slotTimes}
-use Rattle.promises.specs.Calls.{State, Call, afterAll}
+use Rattle.promises.specs.Calls.{Kept, Call, afterAll}
 use Rattle.promises.specs.History.{timeOf, pastOf, whoIn}
 use Rattle.promises.specs.History.Who.{us}
 
-abbrev pub planIn : State → Plan
+abbrev pub planIn : Kept → Plan
 planIn s = s .watch .channel .plan
 
 -- the slot time t, counted since the book was new, is in the book and ours

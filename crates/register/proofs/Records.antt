@@ -12,8 +12,9 @@ use lib.IntN.{ℤ}
 use lib.Dec.{eqb}
 use types.Run.{OneOf}
 use Rattle.laws.specs.Tests.{pick}
+use Rattle.limits.specs.Limits.{holdOff}
 use Rattle.distance.specs.Distance.{reachOf}
-use Rattle.choosing.specs.declared.Ask.{Ask as ChooseAsk}
+use Rattle.choosing.specs.declared.Wanted.{Wanted}
 use Rattle.choosing.specs.Own.{held}
 use Rattle.register.specs.declared.Station.{Station}
 use Rattle.register.specs.declared.Watch.{Watch}
@@ -46,7 +47,7 @@ other-word New w n s o = refl
 other-word Sum w n s o = refl
 
 -- the reach, where one is
-pub chosen-word : (x : Ask) (s : Station) (a : ChooseAsk) → x .what ≡ Choose a
+pub chosen-word : (x : Ask) (s : Station) (a : Wanted) → x .what ≡ Choose a
     → reachOf (x .watch .ship) (record { base = s .base; latitude = s .latitude; longitude = s .longitude; hold = s .hold - x .passes }) ≡ wordOf x s
 unfolding wordOf reachIn
 chosen-word x s a e = sym (ap (λ (q : What). wordBy q (x .watch) (x .passes) s) e)
@@ -55,7 +56,7 @@ chosen-word x s a e = sym (ap (λ (q : What). wordBy q (x .watch) (x .passes) s)
 
 module _ (hold word : ℕ) (o : Order) where
   -- a mark of the station was replaced
-  pub held-off : o .holds ≡ true → word ≡ held → 2250 ≡ holdAfter hold word o
+  pub held-off : o .holds ≡ true → word ≡ held → holdOff ≡ holdAfter hold word o
   unfolding holdAfter
   held-off e f = rw (e, eq-eqb word held f)
 

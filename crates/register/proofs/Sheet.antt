@@ -9,6 +9,7 @@ use lib.Dec.{T, eqb}
 use lib.ListN.{length, getD, drop}
 use lib.Seq.{getD-drop}
 use Rattle.laws.specs.Tests.{pick}
+use Rattle.limits.specs.Limits.{records}
 use Rattle.register.specs.declared.Station.{Station}
 use Rattle.register.specs.Sheet.{numbered, filled, settledBy, settled, Leaf, Leaves, Ends, out, writtenBack, sheeted}
 
@@ -68,7 +69,7 @@ module _
   where
     -- the core refuses another length with the answer why, and leaves the book
     abbrev pub Refuses : Type 0
-    Refuses = (n : ℕ) (us vs : List ℕ) (bs : B) → eqb n 255 ≡ false → (K n us vs bs .answer ≡ why) × (K n us vs bs .book ≡ bs)
+    Refuses = (n : ℕ) (us vs : List ℕ) (bs : B) → eqb n records ≡ false → (K n us vs bs .answer ≡ why) × (K n us vs bs .book ≡ bs)
 
     module _
         (refused : Refuses) (xs : List Station) (bs : B) (us vs : List ℕ) (z : Z) (y : Y) (us′ vs′ : List ℕ) (cs : B) (zs : List Station)
@@ -77,7 +78,7 @@ module _
         core = K (length xs) (map f xs) (map g xs) bs
 
         bridge-at :
-            (t : Bool) → eqb (length xs) 255 ≡ t → Leaves (K (length xs) (pick t (map f xs) us) (pick t (map g xs) vs) bs) z y us′ vs′ cs
+            (t : Bool) → eqb (length xs) records ≡ t → Leaves (K (length xs) (pick t (map f xs) us) (pick t (map g xs) vs) bs) z y us′ vs′ cs
             → zs ≡ pick t (settledBy (s z) us′ vs′ xs) xs
             → Ends (pick t (writtenBack f g s K why xs core) (out why xs bs)) y zs cs
         bridge-at true e c w = record {
@@ -97,4 +98,4 @@ module _
         pub bridge :
             Leaves (K (length xs) (filled f xs us) (filled g xs vs) bs) z y us′ vs′ cs → zs ≡ settled (s z) xs us′ vs′
             → Ends (sheeted f g s K why xs bs) y zs cs
-        bridge = bridge-at (eqb (length xs) 255) refl
+        bridge = bridge-at (eqb (length xs) records) refl

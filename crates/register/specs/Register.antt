@@ -5,8 +5,8 @@ use mathlib.Core.Bool.{false}
 use lib.IntN.{pos}
 use lib.Dec.{eqb}
 use Rattle.laws.specs.Tests.{pick, both}
+use Rattle.limits.specs.Limits.{slotTimes, holdOff}
 use Rattle.ship.specs.Ship.{unknownShip}
-use Rattle.book.specs.Book.{slotTimes}
 use Rattle.distance.specs.Distance.{reachOf}
 use Rattle.choosing.specs.Own.{held}
 use Rattle.register.specs.declared.Station.{Station}
@@ -55,7 +55,7 @@ wordOf x s = wordBy (x .what) (x .watch) (x .passes) s
 
 -- the hold-off: 2250 for a station whose mark was replaced, else one less for each pass
 unfoldable pub holdAfter : ℕ → ℕ → Order → ℕ
-holdAfter hold word o = pick (both (o .holds) (eqb word held)) 2250 (hold - o .passes)
+holdAfter hold word o = pick (both (o .holds) (eqb word held)) holdOff (hold - o .passes)
 
 -- a record that no station was entered in, with its tally from the first column
 abbrev pub kept : Order → Station → ℕ → ℕ → Station

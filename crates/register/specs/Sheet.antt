@@ -7,6 +7,7 @@ use mathlib.Core.List.{List, [], _∷_, map}
 use lib.ListN.{length, getD}
 use lib.Dec.{eqb}
 use Rattle.laws.specs.Tests.{pick}
+use Rattle.limits.specs.Limits.{records}
 use Rattle.register.specs.declared.Station.{Station}
 
 -- a list numbered from i
@@ -16,13 +17,13 @@ numbered f i (x ∷ xs) = f i x ∷ numbered f (suc i) xs
 
 -- a column us of the sheet once what f says of each record is written to it, and a register once it is settled: where it has 255 records
 abbrev pub filled : (Station → ℕ) → List Station → List ℕ → List ℕ
-filled f xs us = pick (eqb (length xs) 255) (map f xs) us
+filled f xs us = pick (eqb (length xs) records) (map f xs) us
 
 abbrev pub settledBy : (ℕ → Station → ℕ → ℕ → Station) → List ℕ → List ℕ → List Station → List Station
 settledBy g us bs xs = numbered (λ i s. g i s (getD us i 0) (getD bs i 0)) 0 xs
 
 abbrev pub settled : (ℕ → Station → ℕ → ℕ → Station) → List Station → List ℕ → List ℕ → List Station
-settled g xs us bs = pick (eqb (length xs) 255) (settledBy g us bs xs) xs
+settled g xs us bs = pick (eqb (length xs) records) (settledBy g us bs xs) xs
 
 -- ---- what the core says: its order for the register, its answer, both columns and the book after it
 -- (B: a list, or a pair of lists for two books)
@@ -67,4 +68,4 @@ module _
     writtenBack xs k = out (k .answer) (settledBy (s (k .order)) (k .left) (k .right) xs) (k .book)
 
     abbrev pub sheeted : List Station → B → Out Y B
-    sheeted xs bs = pick (eqb (length xs) 255) (writtenBack xs (K (length xs) (map f xs) (map g xs) bs)) (out why xs bs)
+    sheeted xs bs = pick (eqb (length xs) records) (writtenBack xs (K (length xs) (map f xs) (map g xs) bs)) (out why xs bs)

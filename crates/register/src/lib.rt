@@ -8,9 +8,15 @@ use book::Counts;
 use choosing::marks::HELD;
 use distance::reach;
 use hearing::Told;
+use limits::SLOT_TIMES;
 use plan::Plan;
 use reporting::Time;
 use ship::Ship;
+
+// All slot times, as a count is.
+const ALL: u16 = SLOT_TIMES as u16;
+
+const HOLD_OFF: u16 = limits::HOLD_OFF as u16;
 
 pub struct Station {
     pub source: u32,
@@ -45,7 +51,7 @@ pub enum What {
     Hear(Told),
     Plan(Rate),
     Own(Ship),
-    Choose(choosing::Ask),
+    Choose(choosing::Wanted),
     Report(Time),
     New,
     Sum,
@@ -80,10 +86,7 @@ pub fn new_watch() -> Watch
     Watch {
         present: 0,
         channel: Channel {
-            counts: Counts {
-                free: 20250,
-                own: 0,
-            },
+            counts: Counts { free: ALL, own: 0 },
             plan,
         },
         ship,
@@ -132,13 +135,13 @@ pub fn word_of(s: Station, x: Ask) -> u32
     let watch = x.watch;
     let ship = watch.ship;
     let hold = fallen(s.hold, x.passes);
-    let station = distance::Station {
+    let holder = distance::Holder {
         base: s.base,
         latitude: s.latitude,
         longitude: s.longitude,
         hold,
     };
-    reach(ship, station)
+    reach(ship, holder)
 }
 
 // A hold-off after the call: 2250 where a mark of the station was replaced, which is after the slots have passed.
@@ -148,7 +151,7 @@ fn hold_after(hold: u16, word: u32, o: Order) -> u16
     let less = fallen(hold, o.passes);
     if o.holds {
         if word == HELD {
-            return 2250;
+            return HOLD_OFF;
         }
         return less;
     }

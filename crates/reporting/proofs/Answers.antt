@@ -8,6 +8,7 @@ use borrow.Author.Tests.{eq-eqb, ne-eqb, le-leb, lt-leb}
 use lib.Dec.{leb}
 use lib.ListN.{getD}
 use Rattle.laws.proofs.Tests.{both-no}
+use Rattle.limits.specs.Limits.{frameSlots}
 use Rattle.numbers.specs.declared.Refusal.the-variants.{OtherLength, NoPlan, OutOfRange, NotOwn}
 use Rattle.message.specs.declared.state.SubMessage.the-variants.{Offset, Time, Slot, Stations}
 use Rattle.plan.specs.declared.Plan.{Plan}
@@ -32,7 +33,7 @@ module _ (slots tallies : List ℕ) (present : ℕ) (p : Plan) (time : Hour) whe
       say-time e = sym (simp (ne-eqb n 0 some, eq-eqb n 1 e))
 
       module _ (more : n ≡ 1 → ⊥) where
-        pub say-slot : n % 2 ≡ 0 → Slot (record { pairs = (n - 2) / 2; number = present % 2250 }) ≡ subMessage slots tallies present p time n
+        pub say-slot : n % 2 ≡ 0 → Slot (record { pairs = (n - 2) / 2; number = present % frameSlots }) ≡ subMessage slots tallies present p time n
         unfolding subMessage
         say-slot e = sym (simp (ne-eqb n 0 some, ne-eqb n 1 more, eq-eqb (n % 2) 0 e))
 

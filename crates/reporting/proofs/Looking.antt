@@ -13,6 +13,7 @@ use lib.ListN.{length, getD, drop}
 use Rattle.laws.specs.Counting.{one}
 use Rattle.laws.proofs.Sums.{one-le}
 use Rattle.laws.proofs.Loops.{Fold, fold-more, fold-end}
+use Rattle.limits.specs.Limits.{frameSlots, mostTimeOut}
 use Rattle.reporting.specs.Report.{ownAt, inARow, timeOut, firstOwn, heardStations}
 
 -- ---- frames in a row
@@ -60,16 +61,16 @@ row-ends p i (suc n) l = go (p i) refl (row-ends p (i + 1) n)
 module _ (slots : List ℕ) (present : ℕ) where
   -- the present slot, i frames ahead
   abbrev pub frameOwn : ℕ → Bool
-  frameOwn i = ownAt slots present (2250 * i)
+  frameOwn i = ownAt slots present (frameSlots * i)
 
   -- a time-out is 0 to 7
-  pub time-out-most : timeOut slots present ≤ 7
+  pub time-out-most : timeOut slots present ≤ mostTimeOut
   unfolding timeOut
-  time-out-most = row-most frameOwn 1 7
+  time-out-most = row-most frameOwn 1 mostTimeOut
 
   -- i frames gone through, all own, and those in a row of what is left
   unfoldable pub framesFrom : ℕ → ℕ
-  framesFrom i = i + inARow frameOwn (i + 1) (7 - i)
+  framesFrom i = i + inARow frameOwn (i + 1) (mostTimeOut - i)
 
   -- none gone through
   pub frames-start : framesFrom 0 ≡ timeOut slots present
@@ -77,24 +78,24 @@ module _ (slots : List ℕ) (present : ℕ) where
   frames-start = omega arith
 
   -- all gone through
-  pub frames-end : framesFrom 7 ≡ 7
+  pub frames-end : framesFrom mostTimeOut ≡ mostTimeOut
   unfolding framesFrom
   frames-end = refl
 
-  module _ (i : ℕ) (l : i < 7) where
+  module _ (i : ℕ) (l : i < mostTimeOut) where
     -- the frames left, by the next one
-    one-left : 7 - i ≡ suc (7 - (i + 1))
+    one-left : mostTimeOut - i ≡ suc (mostTimeOut - (i + 1))
     one-left = omega arith
 
     -- one more that is own
-    pub frame-own : ownAt slots present (2250 * (i + 1)) ≡ true → framesFrom i ≡ framesFrom (i + 1)
+    pub frame-own : ownAt slots present (frameSlots * (i + 1)) ≡ true → framesFrom i ≡ framesFrom (i + 1)
     unfolding framesFrom
-    frame-own e = rw one-left (omega (arith, row-more frameOwn (i + 1) (7 - (i + 1)) e))
+    frame-own e = rw one-left (omega (arith, row-more frameOwn (i + 1) (mostTimeOut - (i + 1)) e))
 
     -- one that is not
-    pub frame-other : ownAt slots present (2250 * (i + 1)) ≡ false → framesFrom i ≡ i
+    pub frame-other : ownAt slots present (frameSlots * (i + 1)) ≡ false → framesFrom i ≡ i
     unfolding framesFrom
-    frame-other e = rw one-left (omega (arith, row-stops frameOwn (i + 1) (7 - (i + 1)) e))
+    frame-other e = rw one-left (omega (arith, row-stops frameOwn (i + 1) (mostTimeOut - (i + 1)) e))
 
 -- ---- the first own time
 

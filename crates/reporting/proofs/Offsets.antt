@@ -8,6 +8,7 @@ use native.Mathlib.Decide.{ℕ-discrete}
 use native.Mathlib.Omega.{arith}
 use borrow.Author.Tests.{lt-ltb, ltb-true}
 use Rattle.laws.proofs.Tests.{not-true, pick-has}
+use Rattle.limits.specs.Limits.{frameSlots, widest}
 use Rattle.plan.specs.declared.Plan.{Plan}
 use Rattle.plan.specs.declared.Lies.{Lies}
 use Rattle.plan.specs.declared.Lies.the-variants.{In, Outside}
@@ -17,7 +18,7 @@ use Rattle.plan.proofs.Promised.{no-slot-in-two}
 use Rattle.reporting.specs.Report.{ownAt, firstOwn, liesIn, offsetIn, offsetBelow, offsetOf}
 
 -- a window has at most 451 slots
-pub slots-most : (p : Plan) → windowSlots p ≤ 451
+pub slots-most : (p : Plan) → windowSlots p ≤ widest
 unfolding windowSlots
 slots-most p = omega (arith, half-most p)
 
@@ -33,30 +34,30 @@ told-out p n r e = subst (Tells p n) e
 module _ (slots : List ℕ) (present : ℕ) (p : Plan) where
   -- now lies in the window of k, as the test says it
   abbrev Here : ℕ → Type 0
-  Here k = liesIn p k (present % 2250) ≡ true
+  Here k = liesIn p k (present % frameSlots) ≡ true
 
   -- what the test says of a window that now lies in
-  here-is : (k : ℕ) → InWindow p k (present % 2250) → Here k
+  here-is : (k : ℕ) → InWindow p k (present % frameSlots) → Here k
   unfolding liesIn
-  here-is k w = lt-ltb (since (first p k) (present % 2250)) (windowSlots p) (w .near)
+  here-is k w = lt-ltb (since (first p k) (present % frameSlots)) (windowSlots p) (w .near)
 
   -- the test says it of a window that the plan has
-  is-here : (k : ℕ) → k < p .rate → Here k → InWindow p k (present % 2250)
+  is-here : (k : ℕ) → k < p .rate → Here k → InWindow p k (present % frameSlots)
   unfolding liesIn
-  is-here k l e = record { known = l; near = ltb-true (since (first p k) (present % 2250)) (windowSlots p) e }
+  is-here k l e = record { known = l; near = ltb-true (since (first p k) (present % frameSlots)) (windowSlots p) e }
 
   -- one more window below, that now lies in or not
   below-here : (k : ℕ) → Here k → offsetBelow slots present p (suc k) ≡ offsetIn slots present p k
   below-here k e = rw e
 
-  below-not : (k : ℕ) → liesIn p k (present % 2250) ≡ false → offsetBelow slots present p (suc k) ≡ offsetBelow slots present p k
+  below-not : (k : ℕ) → liesIn p k (present % frameSlots) ≡ false → offsetBelow slots present p (suc k) ≡ offsetBelow slots present p k
   below-not k e = rw e
 
   -- now lies in none of the windows below m
   below-none : (m : ℕ) → ((k : ℕ) → k < m → Here k → ⊥) → offsetBelow slots present p m ≡ 0
   below-none zero none = refl
   below-none (suc m) none =
-      below-not m (not-true (liesIn p m (present % 2250)) (none m (omega arith))) ∙ below-none m (λ k l. none k (omega arith))
+      below-not m (not-true (liesIn p m (present % frameSlots)) (none m (omega arith))) ∙ below-none m (λ k l. none k (omega arith))
 
   -- now lies in one of them alone
   below-one : (k m : ℕ) → k < m → Here k → ((j : ℕ) → j < m → Here j → k ≡ j) → offsetBelow slots present p m ≡ offsetIn slots present p k
@@ -66,26 +67,26 @@ module _ (slots : List ℕ) (present : ℕ) (p : Plan) where
       go : Dec (k ≡ m) → ((k ≡ m → ⊥) → offsetBelow slots present p m ≡ offsetIn slots present p k)
           → offsetBelow slots present p (suc m) ≡ offsetIn slots present p k
       go (yes e) rest = rw e (below-here m (rw e at h))
-      go (no d) rest = below-not m (not-true (liesIn p m (present % 2250)) (λ b. d (only m (omega arith) b))) ∙ rest d
+      go (no d) rest = below-not m (not-true (liesIn p m (present % frameSlots)) (λ b. d (only m (omega arith) b))) ∙ rest d
 
   -- so the offset goes by the window that now lies in
-  pub offset-in : (k : ℕ) → InRange p → InWindow p k (present % 2250) → offsetOf slots present p ≡ offsetIn slots present p k
+  pub offset-in : (k : ℕ) → InRange p → InWindow p k (present % frameSlots) → offsetOf slots present p ≡ offsetIn slots present p k
   unfolding offsetOf
   offset-in k good w =
       below-one k (p .rate) (w .known) (here-is k w)
-      (λ j l h. no-slot-in-two p good k j (present % 2250) (omega arith) w (is-here j l h))
+      (λ j l h. no-slot-in-two p good k j (present % frameSlots) (omega arith) w (is-here j l h))
 
   -- and is 0 where there is none
-  pub offset-out : ((k : ℕ) → InWindow p k (present % 2250) → ⊥) → offsetOf slots present p ≡ 0
+  pub offset-out : ((k : ℕ) → InWindow p k (present % frameSlots) → ⊥) → offsetOf slots present p ≡ 0
   unfolding offsetOf
   offset-out none = below-none (p .rate) (λ k l h. none k (is-here k l h))
 
   -- the answer, with the first slot of the window and the number of its slots as the code has them
-  pub offset-found : (k f n r : ℕ) → InRange p → InWindow p k (present % 2250) → f ≡ first p k → n ≡ windowSlots p
-      → r ≡ firstOwn slots present (2250 - since f (present % 2250)) n → r ≡ offsetOf slots present p
+  pub offset-found : (k f n r : ℕ) → InRange p → InWindow p k (present % frameSlots) → f ≡ first p k → n ≡ windowSlots p
+      → r ≡ firstOwn slots present (frameSlots - since f (present % frameSlots)) n → r ≡ offsetOf slots present p
   unfolding offsetIn
   offset-found k f n r good w g h e =
-      e ∙ (λ i. firstOwn slots present (2250 - since (g i) (present % 2250)) (h i)) ∙ sym (offset-in k good w)
+      e ∙ (λ i. firstOwn slots present (frameSlots - since (g i) (present % frameSlots)) (h i)) ∙ sym (offset-in k good w)
 
 -- ---- the first own time of a stretch
 
@@ -157,18 +158,18 @@ first-most slots present d (suc n) =
 
 module _ (slots : List ℕ) (present : ℕ) (p : Plan) where
   -- in the next coming of a window
-  in-most : (k : ℕ) → offsetIn slots present p k ≤ 2701
+  in-most : (k : ℕ) → offsetIn slots present p k ≤ (frameSlots + widest)
   unfolding offsetIn
   in-most k =
-      omega (arith, first-most slots present (2250 - since (first p k) (present % 2250)) (windowSlots p), slots-most p)
+      omega (arith, first-most slots present (frameSlots - since (first p k) (present % frameSlots)) (windowSlots p), slots-most p)
 
   -- of whichever window
-  below-most : (m : ℕ) → offsetBelow slots present p m ≤ 2701
+  below-most : (m : ℕ) → offsetBelow slots present p m ≤ (frameSlots + widest)
   below-most zero = omega arith
   below-most (suc m) =
-      pick-has (λ (x : ℕ). x ≤ 2701) (liesIn p m (present % 2250)) (offsetIn slots present p m) (offsetBelow slots present p m) (in-most m) (below-most m)
+      pick-has (λ (x : ℕ). x ≤ (frameSlots + widest)) (liesIn p m (present % frameSlots)) (offsetIn slots present p m) (offsetBelow slots present p m) (in-most m) (below-most m)
 
   -- so it fits 14 bits
-  pub offset-most : offsetOf slots present p ≤ 2701
+  pub offset-most : offsetOf slots present p ≤ (frameSlots + widest)
   unfolding offsetOf
   offset-most = below-most (p .rate)

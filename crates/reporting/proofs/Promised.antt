@@ -1,16 +1,16 @@
 -- The proofs of specs/Promises.antt.
 -- Assumes nothing.
 use mathlib.Core.Path.{_≡_, refl, sym, ap, _∙_}
-use mathlib.Core.List.{List}
+use mathlib.Core.List.{List, [], _∷_}
 use Prim.Native.Nat.{ℕ, _+_, _-_, _*_, _/_, _%_, _≤_}
 use native.Mathlib.Nat.{add-comm}
 use native.Mathlib.Decide.{ℕ-discrete}
 use native.Mathlib.Omega.{arith}
-use Rattle.laws.proofs.Ladder.{exactly, passed}
+use Rattle.laws.proofs.Ladder.{by-tests}
+use Rattle.limits.specs.Limits.{frameSlots, mostTimeOut}
 use Rattle.message.specs.State.{timeOutOf}
 use Rattle.plan.specs.declared.Plan.{Plan}
 use Rattle.plan.specs.Plan.{first, since, slots as windowSlots}
-use Rattle.reporting.specs.declared.Time.{Time}
 use Rattle.reporting.specs.declared.Reported.the-variants.{Done}
 use Rattle.reporting.specs.Report.{reportedNumber, timeOut, firstOwn, offsetIn, offsetOf, subMessage, reportTests, reportAnswer}
 use Rattle.reporting.specs.Promises.{ReportOnce, ReportExactly, TimeOutSaid, FramesAreOwn, OffsetFinds, OffsetInWindow, OffsetOutside}
@@ -23,18 +23,11 @@ use Rattle.reporting.proofs.Answers.{say-offset, say-time, say-slot, sa
 pub report-once : ReportOnce
 report-once slots tallies present p time r r′ e f = e ∙ sym f
 
-pub report-exactly : (slots tallies : List ℕ) (present : ℕ) (p : Plan) (time : Time) → ReportExactly slots tallies present p time
+pub report-exactly : ReportExactly
 unfolding reportAnswer reportTests
 report-exactly slots tallies present p time =
-    let ts = reportTests slots tallies present p time in
     let d = Done (subMessage slots tallies present p time (timeOut slots present)) in
-    record {
-      given-20 = exactly reportedNumber 20 0 ts d tt (λ e. omega arith);
-      given-31 = exactly reportedNumber 31 1 ts d tt (λ e. omega arith);
-      given-30 = exactly reportedNumber 30 2 ts d tt (λ e. omega arith);
-      given-36 = exactly reportedNumber 36 3 ts d tt (λ e. omega arith);
-      given-0 = passed reportedNumber 0 ts d tt refl;
-    }
+    by-tests (20 ∷ 31 ∷ 30 ∷ 36 ∷ []) reportedNumber (reportTests slots tallies present p time) d refl tt refl
 
 -- ---- the time-out
 
@@ -59,8 +52,8 @@ unfolding timeOut
 frames-are-own slots present =
     record {
       most = time-out-most slots present;
-      own = λ i l m. row-passes (frameOwn slots present) 1 7 i l (omega (arith, m));
-      ends = λ l. ap (frameOwn slots present) (add-comm (timeOut slots present) 1) ∙ row-ends (frameOwn slots present) 1 7 l;
+      own = λ i l m. row-passes (frameOwn slots present) 1 mostTimeOut i l (omega (arith, m));
+      ends = λ l. ap (frameOwn slots present) (add-comm (timeOut slots present) 1) ∙ row-ends (frameOwn slots present) 1 mostTimeOut l;
     }
 
 -- ---- the offset
@@ -80,7 +73,7 @@ finds slots present p a r e h =
 pub offset-in-window : OffsetInWindow
 unfolding offsetIn
 offset-in-window slots present p k good w =
-    let a = 2250 - since (first p k) (present % 2250) in
+    let a = frameSlots - since (first p k) (present % frameSlots) in
     finds slots present p a (firstOwn slots present a (windowSlots p)) (offset-in slots present p k good w)
     (found slots present a (windowSlots p) (omega arith))
 

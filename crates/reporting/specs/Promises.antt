@@ -3,16 +3,15 @@
 use Prim.Native.Nat.{ℕ, _+_, _-_, _*_, _%_, _≤_, _<_}
 use mathlib.Core.Path.{_≡_}
 use mathlib.Core.Bool.{true, false}
-use mathlib.Core.Logic.{_↔_}
-use mathlib.Core.List.{List}
+use mathlib.Core.List.{List, [], _∷_}
+use Rattle.laws.specs.Exactly.{Exactly}
+use Rattle.limits.specs.Limits.{frameSlots, mostTimeOut}
 use Rattle.plan.specs.declared.Plan.{Plan}
 use Rattle.plan.specs.Plan.{InRange, InWindow, first, since, slots as windowSlots}
-use Rattle.book.specs.Sizes.{sized}
-use Rattle.book.specs.Planning.{planFits}
 use Rattle.message.specs.State.{timeOutOf}
 use Rattle.reporting.specs.declared.Time.{Time}
 use Rattle.reporting.specs.declared.Reported.{Reported}
-use Rattle.reporting.specs.Report.{reportedNumber, ownAt, timeOut, offsetOf, subMessage, timeFits, reportAnswer}
+use Rattle.reporting.specs.Report.{reportedNumber, ownAt, timeOut, offsetOf, subMessage, reportTests, reportAnswer}
 
 -- no second answer meets the contract
 abbrev pub ReportOnce : Type 0
@@ -20,17 +19,11 @@ ReportOnce =
     (slots tallies : List ℕ) (present : ℕ) (p : Plan) (time : Time) (r r′ : Reported)
     → r ≡ reportAnswer slots tallies present p time → r′ ≡ reportAnswer slots tallies present p time → r ≡ r′
 
--- each number is given exactly when; 0 is none
-pub record ReportExactly (slots tallies : List ℕ) (present : ℕ) (p : Plan) (time : Time) : Type 0 where
-  pub given-20 : (reportedNumber (reportAnswer slots tallies present p time) ≡ 20) ↔ (sized slots tallies ≡ false)
-  pub given-31 : (reportedNumber (reportAnswer slots tallies present p time) ≡ 31)
-      ↔ ((sized slots tallies ≡ true) × (planFits (p .rate) (p .start) ≡ false))
-  pub given-30 : (reportedNumber (reportAnswer slots tallies present p time) ≡ 30)
-      ↔ ((sized slots tallies ≡ true) × ((planFits (p .rate) (p .start) ≡ true) × (timeFits time ≡ false)))
-  pub given-36 : (reportedNumber (reportAnswer slots tallies present p time) ≡ 36)
-      ↔ ((sized slots tallies ≡ true) × ((planFits (p .rate) (p .start) ≡ true) × ((timeFits time ≡ true) × (ownAt slots present 0 ≡ false))))
-  pub given-0 : (reportedNumber (reportAnswer slots tallies present p time) ≡ 0)
-      ↔ ((sized slots tallies ≡ true) × ((planFits (p .rate) (p .start) ≡ true) × ((timeFits time ≡ true) × (ownAt slots present 0 ≡ true))))
+-- each number is given exactly when
+abbrev pub ReportExactly : Type 0
+ReportExactly =
+    (slots tallies : List ℕ) (present : ℕ) (p : Plan) (time : Time)
+    → Exactly (20 ∷ 31 ∷ 30 ∷ 36 ∷ []) reportedNumber (reportTests slots tallies present p time) (reportAnswer slots tallies present p time)
 
 -- ---- the time-out that the sub-message has is the number of frames in a row
 
@@ -40,9 +33,9 @@ TimeOutSaid =
 
 -- so many frames are own, and the next one is not, or there are seven
 pub record FramesOwn (slots : List ℕ) (present : ℕ) : Type 0 where
-  pub most : timeOut slots present ≤ 7
-  pub own : (i : ℕ) → 1 ≤ i → i ≤ timeOut slots present → ownAt slots present (2250 * i) ≡ true
-  pub ends : timeOut slots present < 7 → ownAt slots present (2250 * (timeOut slots present + 1)) ≡ false
+  pub most : timeOut slots present ≤ mostTimeOut
+  pub own : (i : ℕ) → 1 ≤ i → i ≤ timeOut slots present → ownAt slots present (frameSlots * i) ≡ true
+  pub ends : timeOut slots present < mostTimeOut → ownAt slots present (frameSlots * (timeOut slots present + 1)) ≡ false
 
 abbrev pub FramesAreOwn : Type 0
 FramesAreOwn = (slots : List ℕ) (present : ℕ) → FramesOwn slots present
@@ -59,9 +52,9 @@ pub record OffsetFinds (slots : List ℕ) (present : ℕ) (p : Plan) (a : ℕ) :
 
 abbrev pub OffsetInWindow : Type 0
 OffsetInWindow =
-    (slots : List ℕ) (present : ℕ) (p : Plan) (k : ℕ) → InRange p → InWindow p k (present % 2250)
-    → OffsetFinds slots present p (2250 - since (first p k) (present % 2250))
+    (slots : List ℕ) (present : ℕ) (p : Plan) (k : ℕ) → InRange p → InWindow p k (present % frameSlots)
+    → OffsetFinds slots present p (frameSlots - since (first p k) (present % frameSlots))
 
 abbrev pub OffsetOutside : Type 0
 OffsetOutside =
-    (slots : List ℕ) (present : ℕ) (p : Plan) → ((k : ℕ) → InWindow p k (present % 2250) → ⊥) → offsetOf slots present p ≡ 0
+    (slots : List ℕ) (present : ℕ) (p : Plan) → ((k : ℕ) → InWindow p k (present % frameSlots) → ⊥) → offsetOf slots present p ≡ 0

@@ -7,6 +7,7 @@ use lib.Dec.{eqb, leb, ltb}
 use lib.ListN.{getD}
 use Rattle.laws.specs.Tests.{pick, both, ladder}
 use Rattle.laws.specs.Counting.{one}
+use Rattle.limits.specs.Limits.{frameSlots, mostTimeOut}
 use Rattle.numbers.specs.declared.Refusal.the-variants.{OtherLength, NoPlan, OutOfRange, NotOwn}
 use Rattle.numbers.specs.Numbers.{numberOf}
 use Rattle.message.specs.declared.state.SubMessage.{SubMessage}
@@ -37,7 +38,7 @@ inARow p i (suc n) = pick (p i) (suc (inARow p (suc i) n)) 0
 
 -- the number of frames in a row, from the next on, in which the same slot is own, at most 7
 unfoldable pub timeOut : List ℕ → ℕ → ℕ
-timeOut slots present = inARow (λ i. ownAt slots present (2250 * i)) 1 7
+timeOut slots present = inARow (λ i. ownAt slots present (frameSlots * i)) 1 mostTimeOut
 
 -- ---- offset
 
@@ -52,12 +53,12 @@ liesIn p k n = ltb (since (first p k) n) (windowSlots p)
 
 -- in the next coming of the window of k, in which now lies: it starts a frame after the coming that now is in
 unfoldable pub offsetIn : List ℕ → ℕ → Plan → ℕ → ℕ
-offsetIn slots present p k = firstOwn slots present (2250 - since (first p k) (present % 2250)) (windowSlots p)
+offsetIn slots present p k = firstOwn slots present (frameSlots - since (first p k) (present % frameSlots)) (windowSlots p)
 
 -- of the windows below k
 abbrev pub offsetBelow : List ℕ → ℕ → Plan → ℕ → ℕ
 offsetBelow slots present p zero = 0
-offsetBelow slots present p (suc k) = pick (liesIn p k (present % 2250)) (offsetIn slots present p k) (offsetBelow slots present p k)
+offsetBelow slots present p (suc k) = pick (liesIn p k (present % frameSlots)) (offsetIn slots present p k) (offsetBelow slots present p k)
 
 -- the distance to the first own mark in the next coming of the window that now lies in, or 0 if there is no such mark or window
 unfoldable pub offsetOf : List ℕ → ℕ → Plan → ℕ
@@ -75,7 +76,7 @@ unfoldable pub subMessage : List ℕ → List ℕ → ℕ → Plan → Hour → 
 subMessage slots tallies present p time n =
     pick (eqb n 0) (Offset (offsetOf slots present p))
     (pick (eqb n 1) (Time (record { hour = time .hour; minute = time .minute; unused = 0 }))
-    (pick (eqb (n % 2) 0) (Slot (record { pairs = (n - 2) / 2; number = present % 2250 }))
+    (pick (eqb (n % 2) 0) (Slot (record { pairs = (n - 2) / 2; number = present % frameSlots }))
     (Stations (record { pairs = (n - 3) / 2; number = heardStations tallies }))))
 
 -- ---- the call

@@ -5,14 +5,14 @@ pub mod look;
 ghost use mathlib.Core.Path.{_≡_};
 ghost use Prim.Native.Nat.{_≤_};
 ghost use lib.ListN.{length};
+ghost use Rattle.limits.specs.Limits.{slotTimes, records, mostTimeOut};
 ghost use Rattle.plan.specs.Plan.{InRange};
-ghost use Rattle.book.specs.Book.{slotTimes, records};
 ghost use Rattle.reporting.specs.Report.{subMessage, reportAnswer};
-use book::FRAME;
 use book::OWN;
-use book::RECORDS;
-use book::SLOT_TIMES;
 use book::place;
+use limits::FRAME;
+use limits::RECORDS;
+use limits::SLOT_TIMES;
 use look::frames_own;
 use look::next_own;
 use look::stations;
@@ -43,7 +43,7 @@ fn sub_message(
     time: Time,
     n: usize,
 ) -> SubMessage
-    requires { ⌜ (length (now book) ≡ slotTimes) × (length (now tallies) ≡ records) × InRange p × (n ≤ 7) ⌝ }
+    requires { ⌜ (length (now book) ≡ slotTimes) × (length (now tallies) ≡ records) × InRange p × (n ≤ mostTimeOut) ⌝ }
     ensures { λ r. ⌜ r ≡ subMessage (now (book .entry)) (now (tallies .entry)) present p time n ⌝ }
 {
     if n == 0 {

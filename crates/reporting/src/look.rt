@@ -4,14 +4,18 @@ ghost use Prim.Native.Nat.{_+_, _≤_, _<_};
 ghost use lib.Dec.{ltb};
 ghost use lib.ListN.{length};
 ghost use Rattle.laws.specs.Counting.{one};
+ghost use Rattle.limits.specs.Limits.{slotTimes};
 ghost use Rattle.plan.specs.Plan.{InRange};
-ghost use Rattle.book.specs.Book.{slotTimes};
 ghost use Rattle.reporting.specs.Report.{ownAt, timeOut, firstOwn, offsetOf, heardStations};
-use book::FRAME;
 use book::OWN;
 use book::place;
+use limits::FRAME;
+use limits::MOST_TIME_OUT;
 use plan::Lies;
 use plan::Plan;
+
+// The slots of a frame as slot numbers are.
+const SLOTS: u16 = FRAME as u16;
 
 // Whether the time d ahead is ours.
 fn own_at(book: &[u16], present: usize, d: usize) -> bool
@@ -28,7 +32,7 @@ pub fn frames_own(book: &[u16], present: usize) -> usize
     ensures { λ r. ⌜ r ≡ timeOut (now (book .entry)) present ⌝ }
 {
     let mut i: usize = 0;
-    while i < 7 {
+    while i < MOST_TIME_OUT {
         if !own_at(book, present, FRAME * (i + 1)) {
             return i;
         }
@@ -61,8 +65,8 @@ pub fn next_own(book: &[u16], present: usize, p: Plan) -> usize
     match p.window_of(slot) {
         Lies::Outside => 0,
         Lies::In(k) => {
-            let since = (slot + 2250 - p.first(k)) % 2250;
-            first_own(book, present, 2250 - since as usize, p.slots() as usize)
+            let since = (slot + SLOTS - p.first(k)) % SLOTS;
+            first_own(book, present, FRAME - since as usize, p.slots() as usize)
         }
     }
 }

@@ -13,8 +13,7 @@ use mir.Syntax.{w32}
 use mir.Val.{SFits, toZ, ofZ}
 use Rattle.laws.specs.Tests.{both, pick}
 use Rattle.laws.proofs.Tests.{never, both-no}
-use Rattle.message.specs.Message.{knownPlace}
-use Rattle.ship.specs.Ship.{unknownPlace, ownPlace}
+use Rattle.ship.specs.Ship.{knownPlace, unknownPlace, ownPlace}
 
 -- what is said of two numbers read back from their bits, as a call and a new struct read them, is said of the numbers
 pub read-back :

@@ -3,12 +3,11 @@
 use Prim.Native.Nat.{ℕ}
 use mathlib.Core.Bool.{Bool, true, false}
 use mathlib.Core.List.{List, [], _∷_}
-use lib.Dec.{eqb}
-use lib.IntN.{ℤ, pos, negsuc}
+use lib.Dec.{eqb, leb}
+use lib.IntN.{ℤ, pos, negsuc, natAbs}
 use Rattle.laws.specs.Tests.{both, pick, between, ladder}
 use Rattle.numbers.specs.declared.Refusal.the-variants.{BadSource, OutOfRange}
 use Rattle.numbers.specs.Numbers.{numberOf}
-use Rattle.message.specs.Message.{knownPlace}
 use Rattle.ship.specs.declared.Ship.{Ship}
 use Rattle.ship.specs.declared.Owned.{Owned}
 use Rattle.ship.specs.declared.Owned.the-variants.{Done, Refused}
@@ -20,6 +19,12 @@ ownedNumber (Refused r) = numberOf r
 -- a station can have this source
 unfoldable pub fairSource : ℕ → Bool
 fairSource source = between 1 999999999 source
+
+-- ---- positions, in 1/10000 minute
+
+-- latitude and longitude of a place that can be
+unfoldable pub knownPlace : ℤ → ℤ → Bool
+knownPlace lat lon = both (leb (natAbs lat) 54000000) (leb (natAbs lon) 108000000)
 
 -- the position that says that it is unknown: 91 degrees north, 181 degrees east
 abbrev pub unknownShip : Ship

@@ -1,8 +1,7 @@
 // Our own ship: what a source and a position can be, and the call that sets them. Promises: `own` gives the answer that specs/Ship.antt
 // defines. specs/Promises.antt has "given exactly when" for each number, and that no second answer meets the contract.
 ghost use mathlib.Core.Path.{_≡_};
-ghost use Rattle.message.specs.Message.{knownPlace};
-ghost use Rattle.ship.specs.Ship.{unknownShip, fairSource, ownPlace, ownAnswer};
+ghost use Rattle.ship.specs.Ship.{knownPlace, unknownShip, fairSource, ownPlace, ownAnswer};
 use numbers::Refusal;
 
 pub struct Ship {

@@ -8,6 +8,7 @@ use native.Mathlib.Decide.{decLt}
 use native.Mathlib.Omega.{arith}
 use borrow.Author.Tests.{lt-ltb, le-ltb}
 use lib.ListN.{length, take, drop, set, length-set, length-drop, length-append, drop-of-length-le}
+use Rattle.limits.specs.Limits.{mostDigits}
 use Rattle.text.specs.Text.{digit, decimalIn, decimal}
 use Rattle.text.proofs.Parts.{whole}
 
@@ -37,8 +38,8 @@ short (suc f) n =
     (λ l. omega (arith, length-append (decimalIn f (n / 10)) (digit (n % 10) ∷ []), short f (n / 10)))
 
 -- a tenth has a place less
-pub tenth : (f n : ℕ) → n < 10 ^ suc f → n / 10 < 10 ^ f
-tenth f n h = omega (arith, pow-suc 10 f)
+pub tenfold : (f n : ℕ) → n < 10 ^ suc f → n / 10 < 10 ^ f
+tenfold f n h = omega (arith, pow-suc 10 f)
 
 pub drop-set : (l : List ℕ) (i x : ℕ) → i < length l → drop i (set l i x) ≡ x ∷ drop (suc i) l
 drop-set [] i x h = absurd (not-suc-le-zero h)
@@ -47,20 +48,20 @@ drop-set (y ∷ l) (suc i) x h = drop-set l i x (le-of-suc-le-suc h)
 
 -- the digits of rest are still to come, up to place i; those after them stand there
 pub record Filling (n : ℕ) (text : List ℕ) (i rest : ℕ) : Type 0 where
-  pub long : length text ≡ 20
-  pub low : i < 20
+  pub long : length text ≡ mostDigits
+  pub low : i < mostDigits
   pub fits : rest < 10 ^ suc i
   pub same : decimalIn (suc i) rest ++ drop (suc i) text ≡ decimal n
 
-pub start : (n : ℕ) (text : List ℕ) → length text ≡ 20 → n < 18446744073709551616 → Filling n text 19 n
-start n text l h = record { long = l; low = omega arith; fits = omega arith; same = ap (decimal n ++_) (drop-of-length-le text {i = 20} (omega arith)) ∙ append-nil (decimal n) }
+pub start : (n : ℕ) (text : List ℕ) → length text ≡ mostDigits → n < 18446744073709551616 → Filling n text 19 n
+start n text l h = record { long = l; low = omega arith; fits = omega arith; same = ap (decimal n ++_) (drop-of-length-le text {i = mostDigits} (omega arith)) ∙ append-nil (decimal n) }
 
 turn-at : (n : ℕ) (text : List ℕ) (i rest : ℕ) → 10 ≤ rest → Filling n text (suc i) rest → Filling n (set text (suc i) (digit (rest % 10))) i (rest / 10)
 turn-at n text i rest h s =
     record {
       long = length-set text (suc i) (digit (rest % 10)) ∙ s .long;
       low = omega arith;
-      fits = tenth (suc i) rest (s .fits);
+      fits = tenfold (suc i) rest (s .fits);
       same =
           ap (decimalIn (suc i) (rest / 10) ++_) (drop-set text (suc i) (digit (rest % 10)) (omega arith))
           ∙ sym (append-assoc (decimalIn (suc i) (rest / 10)) (digit (rest % 10) ∷ []) (drop (suc (suc i)) text))
@@ -77,10 +78,10 @@ pub turn : (n : ℕ) (text : List ℕ) (i rest : ℕ) → 10 ≤ rest → Fillin
 turn n text zero rest h s = absurd (not-suc-le-zero (above zero rest h (s .fits)))
 turn n text (suc i) rest h s = subst (λ (j : ℕ). Filling n (set text (suc i) (digit (rest % 10))) j (rest / 10)) (omega arith) (turn-at n text i rest h s)
 
-pub long-set : (n : ℕ) (text : List ℕ) (i rest x : ℕ) → Filling n text i rest → length (set text i x) ≡ 20
+pub long-set : (n : ℕ) (text : List ℕ) (i rest x : ℕ) → Filling n text i rest → length (set text i x) ≡ mostDigits
 long-set n text i rest x s = length-set text i x ∙ s .long
 
-pub end : (n : ℕ) (text : List ℕ) (i rest : ℕ) → rest < 10 → Filling n text i rest → take (20 - i) (drop i (set text i (digit rest))) ≡ decimal n
+pub end : (n : ℕ) (text : List ℕ) (i rest : ℕ) → rest < 10 → Filling n text i rest → take (mostDigits - i) (drop i (set text i (digit rest))) ≡ decimal n
 end n text i rest h s =
-    whole (drop i (set text i (digit rest))) (20 - i) (omega (arith, length-drop i (set text i (digit rest)), long-set n text i rest (digit rest) s))
+    whole (drop i (set text i (digit rest))) (mostDigits - i) (omega (arith, length-drop i (set text i (digit rest)), long-set n text i rest (digit rest) s))
     ∙ drop-set text i (digit rest) (omega arith) ∙ ap (_++ drop (suc i) text) (sym (one-digit i rest h)) ∙ s .same

@@ -9,6 +9,7 @@ use borrow.Rule.Slice.PartMut.{putMid}
 use lib.ListN.{length, take, drop, set, length-append, length-drop, drop-of-length-le, take-append-drop}
 use lib.Seq.{drop-drop, take-at, drop-at, set-split}
 use Rattle.laws.specs.Lists.{over}
+use Rattle.limits.specs.Limits.{numberRoom}
 
 pub length-over : (xs out : List ℕ) → length xs ≤ length out → length (over xs out) ≡ length out
 unfolding over
@@ -30,7 +31,7 @@ unfolding over
 copied xs text out out′ e h = h ∙ ap (_++ drop (length xs) out) (whole xs (length xs) refl) ∙ ap (λ (l : List ℕ). l ++ drop (length l) out) e
 
 -- behind one byte
-pub after-one : (a : ℕ) (out text ys : List ℕ) → 21 ≤ length out
+pub after-one : (a : ℕ) (out text ys : List ℕ) → numberRoom ≤ length out
     → ys ≡ over text (take (length (set out 0 a) - 1) (drop 1 (set out 0 a)))
     → putMid 1 (length (set out 0 a) - 1) (set out 0 a) ys ≡ over (a ∷ text) out
 unfolding over
@@ -38,7 +39,7 @@ after-one a [] text ys h e = absurd (omega arith)
 after-one a (x ∷ out) text ys h e = ap (a ∷_) (part-over text out ys (suc (length out) - 1) (omega arith) e)
 
 -- behind two bytes
-pub after-two : (a b : ℕ) (out text ys : List ℕ) → 22 ≤ length out
+pub after-two : (a b : ℕ) (out text ys : List ℕ) → (numberRoom + 1) ≤ length out
     → ys ≡ over text (take (length (set (set out 0 a) 1 b) - 2) (drop 2 (set (set out 0 a) 1 b)))
     → putMid 2 (length (set (set out 0 a) 1 b) - 2) (set (set out 0 a) 1 b) ys ≡ over (a ∷ b ∷ text) out
 unfolding over

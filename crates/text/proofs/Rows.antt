@@ -9,17 +9,18 @@ use borrow.Rule.Slice.PartMut.{putMid}
 use lib.ListN.{length, getD, take, drop, length-append, length-take}
 use lib.Seq.{take-suc, take-all, drop-append-add, drop-drop}
 use Rattle.laws.specs.Lists.{over}
+use Rattle.limits.specs.Limits.{mostDigits, numberRoom}
 use Rattle.text.specs.Text.{decimal, spaced, spacedAll, row}
 use Rattle.text.proofs.Digits.{short}
 use Rattle.text.proofs.Parts.{length-over, Stands, reads, long as still-long, behind}
 
 -- a space and at most 20 digits for each number
-numbers-short : (ns : List ℕ) → length (spacedAll ns) ≤ 21 * length ns
+numbers-short : (ns : List ℕ) → length (spacedAll ns) ≤ numberRoom * length ns
 unfolding spacedAll
 numbers-short [] = omega arith
-numbers-short (n ∷ ns) = omega (arith, length-append (spaced (decimal n)) (spacedAll ns), short 20 n, numbers-short ns)
+numbers-short (n ∷ ns) = omega (arith, length-append (spaced (decimal n)) (spacedAll ns), short mostDigits n, numbers-short ns)
 
-pub row-short : (word ns : List ℕ) → length (row word ns) ≤ length word + 21 * length ns
+pub row-short : (word ns : List ℕ) → length (row word ns) ≤ length word + numberRoom * length ns
 unfolding row
 row-short word ns = omega (arith, length-append word (spacedAll ns), numbers-short ns)
 
@@ -51,11 +52,11 @@ row-again word ns out = over-again word (spacedAll ns) out
 
 -- after i numbers; out is as the word left it
 pub record Written (word ns out : List ℕ) (i : ℕ) (out′ : List ℕ) (at : ℕ) : Type 0 where
-  pub room : length word + 21 * length ns ≤ length out
+  pub room : length word + numberRoom * length ns ≤ length out
   pub most : i ≤ length ns
   pub stands : Stands (row word (take i ns)) out out′ at
 
-pub start : (word ns out out′ : List ℕ) (at : ℕ) → length word + 21 * length ns ≤ length out → at ≡ length word → out′ ≡ over word out → Written word ns out′ 0 out′ at
+pub start : (word ns out out′ : List ℕ) (at : ℕ) → length word + numberRoom * length ns ≤ length out → at ≡ length word → out′ ≡ over word out → Written word ns out′ 0 out′ at
 unfolding row spacedAll
 start word ns out out′ at h a e =
     record {
@@ -65,11 +66,11 @@ start word ns out out′ at h a e =
     }
 
 module _ {word ns out : List ℕ} {i : ℕ} {out′ : List ℕ} {at : ℕ} (w : Written word ns out i out′ at) where
-  so-far : length (row word (take i ns)) + 21 * (length ns - i) ≤ length out
+  so-far : length (row word (take i ns)) + numberRoom * (length ns - i) ≤ length out
   so-far = omega (arith, w .room, w .most, row-short word (take i ns), length-take i ns)
 
   -- there is room for the numbers to come
-  pub fits : at + 21 * (length ns - i) ≤ length out
+  pub fits : at + numberRoom * (length ns - i) ≤ length out
   fits = omega (arith, so-far, w .stands .0)
 
   pub long : length out′ ≡ length out

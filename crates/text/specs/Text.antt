@@ -5,6 +5,7 @@ use mathlib.Core.List.{List, [], _∷_, _++_}
 use lib.Dec.{ltb}
 use lib.IntN.{ℤ, pos, negsuc}
 use Rattle.laws.specs.Tests.{pick}
+use Rattle.limits.specs.Limits.{mostDigits}
 
 -- the code of the digit d
 abbrev pub digit : ℕ → ℕ
@@ -17,7 +18,7 @@ decimalIn (suc f) n = pick (ltb n 10) (digit n ∷ []) (decimalIn f (n / 10) ++ 
 
 -- a number of 64 bits has at most 20 digits
 abbrev pub decimal : ℕ → List ℕ
-decimal n = decimalIn 20 n
+decimal n = decimalIn mostDigits n
 
 abbrev pub signed : ℤ → List ℕ
 signed (pos n) = decimal n

@@ -4,11 +4,16 @@ ghost use Prim.Native.Nat.{_+_, _*_, _≤_};
 ghost use mathlib.Core.Path.{_≡_};
 ghost use lib.ListN.{length};
 ghost use Rattle.laws.specs.Lists.{over};
+ghost use Rattle.limits.specs.Limits.{mostDigits, numberRoom};
 ghost use Rattle.text.specs.Text.{decimal, signed, spaced, row};
+use limits::DIGITS;
+
+// The place of the last digit in a text of as many as there can be.
+const LAST: usize = DIGITS - 1;
 
 // A space, and n in decimal.
 pub fn put_number(n: u64, out: &mut [u8]) -> usize
-    requires { ⌜ 21 ≤ length (now out) ⌝ }
+    requires { ⌜ numberRoom ≤ length (now out) ⌝ }
     ensures { λ r. ⌜ (r ≡ length (spaced (decimal n))) × (now (out .exit) ≡ over (spaced (decimal n)) (now (out .entry))) ⌝ }
 {
     out[0] = b' ';
@@ -17,7 +22,7 @@ pub fn put_number(n: u64, out: &mut [u8]) -> usize
 
 // A space, and z in decimal with its sign.
 pub fn put_signed(z: i32, out: &mut [u8]) -> usize
-    requires { ⌜ 22 ≤ length (now out) ⌝ }
+    requires { ⌜ (numberRoom + 1) ≤ length (now out) ⌝ }
     ensures { λ r. ⌜ (r ≡ length (spaced (signed z))) × (now (out .exit) ≡ over (spaced (signed z)) (now (out .entry))) ⌝ }
 {
     let w = z as i64;
@@ -31,7 +36,7 @@ pub fn put_signed(z: i32, out: &mut [u8]) -> usize
 
 // A word, and each of the numbers behind it with a space before it.
 pub fn put_row(word: &[u8], numbers: &[u64], out: &mut [u8]) -> usize
-    requires { ⌜ length (now word) + 21 * length (now numbers) ≤ length (now out) ⌝ }
+    requires { ⌜ length (now word) + numberRoom * length (now numbers) ≤ length (now out) ⌝ }
     ensures { λ r. ⌜ (r ≡ length (row (now (word .entry)) (now (numbers .entry)))) × (now (out .exit) ≡ over (row (now (word .entry)) (now (numbers .entry))) (now (out .entry))) ⌝ }
 {
     let mut at = bytes::copy(word, out);
@@ -43,11 +48,11 @@ pub fn put_row(word: &[u8], numbers: &[u64], out: &mut [u8]) -> usize
 
 // n in decimal: its digits from the last to the first, at the end of a text of 20, and then to the front of out.
 fn put_decimal(n: u64, out: &mut [u8]) -> usize
-    requires { ⌜ 20 ≤ length (now out) ⌝ }
+    requires { ⌜ mostDigits ≤ length (now out) ⌝ }
     ensures { λ r. ⌜ (r ≡ length (decimal n)) × (now (out .exit) ≡ over (decimal n) (now (out .entry))) ⌝ }
 {
-    let mut text = [0u8; 20];
-    let mut i = 19;
+    let mut text = [0u8; DIGITS];
+    let mut i = LAST;
     let mut rest = n;
     while rest >= 10 {
         text[i] = 48 + (rest % 10) as u8;

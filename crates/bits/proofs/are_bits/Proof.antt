@@ -8,32 +8,8 @@ use borrow.Author.Needs.{needs}
 use Rattle.bits.proofs.are_bits.Statement.{statement}
 use Rattle.bits.proofs.are_bits.Tie as tie
 
-all-small-requires : tie.Need-all-small-requires
-all-small-requires c κs = search needs
-
-returns : tie.Need-returns
-returns c = search needs
-
-mul-whole : tie.Need-mul-whole
-mul-whole c = search needs
-
 slice-aggregate-all-small : tie.Need-slice-aggregate-all-small
 slice-aggregate-all-small c = sym (length-take-le _ (c .before .before .before .args .bits .now) (omega arith))
-
-all-small-requires-2 : tie.Need-all-small-requires-2
-all-small-requires-2 c κs = search needs
-
-sub-all-small : tie.Need-sub-all-small
-sub-all-small c = search needs
-
-part-all-small-start : tie.Need-part-all-small-start
-part-all-small-start c = search needs
-
-part-all-small-end : tie.Need-part-all-small-end
-part-all-small-end c = search needs
-
-all-small-requires-3 : tie.Need-all-small-requires-3
-all-small-requires-3 c κs = search needs
 
 returns-2 : tie.Need-returns-2
 returns-2 c =
@@ -52,14 +28,14 @@ pub are-bits-spec : {M : Type 1} → statement M
 are-bits-spec =
     tie.close
     (tie.spec
-    all-small-requires
-    returns
-    mul-whole
+    (search needs)
+    (λ c. search needs)
+    (search needs)
     slice-aggregate-all-small
-    all-small-requires-2
-    sub-all-small
-    part-all-small-start
-    part-all-small-end
-    all-small-requires-3
+    (search needs)
+    (search needs)
+    (search needs)
+    (search needs)
+    (search needs)
     returns-2
     returns-3)

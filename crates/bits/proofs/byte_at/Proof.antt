@@ -17,29 +17,11 @@ last-small c =
     let s = c .before .before .before in
     omega (arith, c .four-at2 .ensures, four-small (s .args .bits .now) (s .args .at) (s .pre .0) (s .pre .1) 4 (omega arith))
 
-four-at-requires : tie.Need-four-at-requires
-four-at-requires c κs = search needs
-
-add-four-at : tie.Need-add-four-at
-add-four-at c = search needs
-
-four-at-requires-2 : tie.Need-four-at-requires-2
-four-at-requires-2 c κs = search needs
-
 mul-both : tie.Need-mul-both
 mul-both c = omega (arith, last-small (c))
 
 add-both : tie.Need-add-both
 add-both c = omega (arith, last-small (c), first-small (c .before))
-
-cast-result : tie.Need-cast-result
-cast-result c = search needs
-
-mul-result : tie.Need-mul-result
-mul-result c = search needs
-
-cast-result-2 : tie.Need-cast-result-2
-cast-result-2 c = search needs
 
 returns : tie.Need-returns
 returns c = gathered _ _ (c .before .before .before .pre .0) (c .before .before .before .pre .1) (c .before .four-at .ensures) (c .four-at2 .ensures)
@@ -48,12 +30,12 @@ pub byte-at-spec : {M : Type 1} → statement M
 byte-at-spec =
     tie.close
     (tie.spec
-    four-at-requires
-    add-four-at
-    four-at-requires-2
+    (search needs)
+    (search needs)
+    (search needs)
     mul-both
     add-both
-    cast-result
-    mul-result
-    cast-result-2
+    (search needs)
+    (search needs)
+    (search needs)
     returns)

@@ -3,30 +3,6 @@ use borrow.Author.Needs.{needs}
 use Rattle.book.proofs.put.Statement.{statement}
 use Rattle.book.proofs.put.Tie as tie
 
-mul-old : tie.Need-mul-old
-mul-old c = search needs
-
-slice-read-old : tie.Need-slice-read-old
-slice-read-old c = search needs
-
-mul-book : tie.Need-mul-book
-mul-book c = search needs
-
-slice-write-book : tie.Need-slice-write-book
-slice-write-book c = search needs
-
-lose-requires : tie.Need-lose-requires
-lose-requires c κs = search needs
-
-gain-requires : tie.Need-gain-requires
-gain-requires c κs = search needs
-
-same-length : tie.Need-same-length
-same-length c = search needs
-
-same-length-2 : tie.Need-same-length-2
-same-length-2 c = search needs
-
 returns : tie.Need-returns
 unfolding putAt
 returns c = cc
@@ -35,12 +11,12 @@ pub put-spec : {M : Type 1} → statement M
 put-spec =
     tie.close
     (tie.spec
-    mul-old
-    slice-read-old
-    mul-book
-    slice-write-book
-    lose-requires
-    gain-requires
-    same-length
-    same-length-2
+    (λ c. search needs)
+    (λ c. search needs)
+    (λ c. search needs)
+    (λ c. search needs)
+    (λ c κs. search needs)
+    (λ c κs. search needs)
+    (λ c. search needs)
+    (λ c. search needs)
     returns)

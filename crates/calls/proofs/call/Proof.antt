@@ -3,7 +3,7 @@ use contract.Running.{givenOf, tables, tablesOf}
 use denote.Triple.Spec.{tripleOf}
 use denote.Triple.Table.{entered, cited}
 use Rattle.register.specs.Register.{tallyOf, wordOf, settle}
-use Rattle.cores.specs.Core.{coreOf}
+use Rattle.answering.specs.Answering.{coreOf}
 use Rattle.calls.specs.Calls.{unsized}
 use Rattle.calls.proofs.Refusals.{call-refuses}
 use Rattle.calls.proofs.Data.{AskD, AskL, OrderD, OrderL, ReplyD, ReplyL, CoreO, CoreL}
@@ -14,9 +14,9 @@ use Rattle.calls.proofs.tallies_out.Met as o16-thm
 use Rattle.calls.proofs.words_out as o32
 use Rattle.calls.proofs.words_out.Symbol as o32-def
 use Rattle.calls.proofs.words_out.Met as o32-thm
-use Rattle.cores.proofs.core as core
-use Rattle.cores.proofs.core.Symbol as core-def
-use Rattle.cores.proofs.core.Met as core-thm
+use Rattle.answering.proofs.core as core
+use Rattle.answering.proofs.core.Symbol as core-def
+use Rattle.answering.proofs.core.Met as core-thm
 use Rattle.calls.proofs.settle_back as back
 use Rattle.calls.proofs.settle_back.Symbol as back-def
 use Rattle.calls.proofs.settle_back.Met as back-thm
@@ -37,6 +37,6 @@ call-spec 𝓤 H 𝓜 𝓖 𝓡 =
     (cited 𝓤 H (tripleOf 𝓤 H (𝓖 .A) o32.signature (o32.spec 𝓤 H (𝓖 .A) (𝓜 .mem) (𝓡 .run))) 𝓜 𝓡 code.env
     o32-def.name o32-def.routine code.calls-calls·words-out (o32-thm.met 𝓤 H 𝓜 𝓖 𝓡))
     (cited 𝓤 H (tripleOf 𝓤 H (𝓖 .A) core.signature (core.spec 𝓤 H (𝓖 .A) (𝓜 .mem) (𝓡 .run))) 𝓜 𝓡 code.env
-    core-def.name core-def.routine code.calls-cores·core (core-thm.met 𝓤 H 𝓜 𝓖 𝓡))
+    core-def.name core-def.routine code.calls-answering·core (core-thm.met 𝓤 H 𝓜 𝓖 𝓡))
     (cited 𝓤 H (tripleOf 𝓤 H (𝓖 .A) back.signature (back.spec 𝓤 H (𝓖 .A) (𝓜 .mem) (𝓡 .run))) 𝓜 𝓡 code.env
     back-def.name back-def.routine code.calls-calls·settle-back (back-thm.met 𝓤 H 𝓜 𝓖 𝓡)))

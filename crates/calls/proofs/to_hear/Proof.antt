@@ -8,14 +8,8 @@ use Rattle.calls.specs.Calls.{asked}
 use Rattle.calls.proofs.to_hear.Statement.{statement}
 use Rattle.calls.proofs.to_hear.Tie as tie
 
-read-requires : tie.Need-read-requires
-read-requires c κs = search needs
-
-tell-received-requires : tie.Need-tell-received-requires
-tell-received-requires c κs = search needs
-
 returns : tie.Need-returns
 returns c = ap (λ (t : Told). asked (c .before .before .before .args .w) 0 (Hear t)) (c .tell-received .ensures ∙ ap toldOf (c .before .read .ensures))
 
 pub to-hear-spec : {M : Type 1} → statement M
-to-hear-spec = tie.close (tie.spec read-requires tell-received-requires returns)
+to-hear-spec = tie.close (tie.spec (λ c κs. search needs) (λ c κs. search needs) returns)

@@ -25,9 +25,6 @@ returns-3 c =
     let l = listsOf (a .book .now) (a .tallies .now) (a .reach .now) in
     chosen-20 l (a .s) (a .p) (a .a) (other-third _ _ _ (c .if3 .taken))
 
-good-requires : tie.Need-good-requires
-good-requires c κs = search needs
-
 returns-4 : tie.Need-returns-4
 returns-4 c =
     let a = c .before .before .before .before .before .before .before .before .args in
@@ -59,15 +56,6 @@ choose-in-requires c κs =
     let ranged = in-range _ (right-plan _ (g .result) (g .ensures) n) in
     (search needs, search needs, search needs, ranged, c .before .before .before .before .before .before .before .if5 .left, omega arith)
 
-same-length : tie.Need-same-length
-same-length c = search needs
-
-same-length-2 : tie.Need-same-length-2
-same-length-2 c = search needs
-
-same-length-3 : tie.Need-same-length-3
-same-length-3 c = search needs
-
 returns-8 : tie.Need-returns-8
 returns-8 c =
     let a = c .before .before .before .before .before .before .before .before .before .before .before .before .before .before .before .before .before .before .before .before .before .before .before .before .before .args in
@@ -81,13 +69,13 @@ choose-spec =
     returns
     returns-2
     returns-3
-    good-requires
+    (λ c κs. search needs)
     returns-4
     returns-5
     returns-6
     returns-7
     choose-in-requires
-    same-length
-    same-length-2
-    same-length-3
+    (λ c. search needs)
+    (λ c. search needs)
+    (λ c. search needs)
     returns-8)

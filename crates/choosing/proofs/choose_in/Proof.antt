@@ -7,42 +7,18 @@ use borrow.Author.Needs.{needs}
 use Rattle.choosing.proofs.choose_in.Statement.{statement}
 use Rattle.choosing.proofs.choose_in.Tie as tie
 
-meant-requires : tie.Need-meant-requires
-meant-requires c κs = search needs
-
 any-own-requires : tie.Need-any-own-requires
 any-own-requires c κs = (search needs, (near _ _ _ _ _ (c .before .meant .ensures), narrow _ _ _ _ _ (c .before .meant .ensures)))
-
-same-length : tie.Need-same-length
-same-length c = search needs
 
 returns : tie.Need-returns
 returns c =
     let a = c .before .before .before .before .before .before .before .args in
     drawn-32 (listsOf (a .book .now) (a .tallies .now) (a .reach .now)) (a .s) (a .p) (a .a) _ (c .before .before .before .meant .ensures) (sym (c .before .any-own .ensures) ∙ c .if1 .taken)
 
-cast-draw : tie.Need-cast-draw
-cast-draw c = search needs
-
 draw-requires : tie.Need-draw-requires
 draw-requires c κs =
     let t = timed _ _ _ _ _ (c .before .before .before .before .before .before .meant .ensures) in
     (search needs, (search needs, (near _ _ _ _ _ (c .before .before .before .before .before .before .meant .ensures), (omega arith, narrow _ _ _ _ _ (c .before .before .before .before .before .before .meant .ensures)))))
-
-enum-told : tie.Need-enum-told
-enum-told c = search needs
-
-enum-told-2 : tie.Need-enum-told-2
-enum-told-2 c = search needs
-
-enum-known-picked : tie.Need-enum-known-picked
-enum-known-picked c = search needs
-
-cast-m : tie.Need-cast-m
-cast-m c = search needs
-
-mul-if2 : tie.Need-mul-if2
-mul-if2 c = search needs
 
 add-if2 : tie.Need-add-if2
 add-if2 c =
@@ -50,50 +26,20 @@ add-if2 c =
     let l = listsOf (a .book .now) (a .tallies .now) (a .reach .now) in
     omega (arith, drawn-near l (a .s) (a .p) (a .a) _ _ (pick-is l (a .s) (a .p) (a .a) _ (c .before .before .before .before .before .before .before .before .before .before .before .meant .ensures) _ (c .before .before .before .before .draw .ensures) _ (c .before .before .picked .given .1)))
 
-same-length-2 : tie.Need-same-length-2
-same-length-2 c = search needs
-
-same-length-3 : tie.Need-same-length-3
-same-length-3 c = search needs
-
 returns-2 : tie.Need-returns-2
 returns-2 c =
     let a = c .before .before .before .before .before .before .before .before .before .before .before .before .before .before .before .before .args in
     drawn-35 (listsOf (a .book .now) (a .tallies .now) (a .reach .now)) (a .s) (a .p) (a .a) _ (c .before .before .before .before .before .before .before .before .before .before .before .before .meant .ensures) _ (c .before .before .before .before .before .draw .ensures) (sym (c .before .before .before .before .before .before .before .before .before .before .any-own .ensures) ∙ c .before .before .before .before .before .before .before .before .before .if1 .left) _ _ (c .before .before .before .picked .given .1) (c .if2 .taken)
-
-take-requires : tie.Need-take-requires
-take-requires c κs = search needs
-
-same-length-4 : tie.Need-same-length-4
-same-length-4 c = search needs
-
-same-length-5 : tie.Need-same-length-5
-same-length-5 c = search needs
 
 returns-3 : tie.Need-returns-3
 returns-3 c =
     let a = c .before .before .before .before .before .before .before .before .before .before .before .before .before .args in
     drawn-33 (listsOf (a .book .now) (a .tallies .now) (a .reach .now)) (a .s) (a .p) (a .a) _ (c .before .before .before .before .before .before .before .before .before .meant .ensures) _ (c .before .before .draw .ensures) (sym (c .before .before .before .before .before .before .before .any-own .ensures) ∙ c .before .before .before .before .before .before .if1 .left) (c .enum-told .given .1)
 
-same-length-6 : tie.Need-same-length-6
-same-length-6 c = search needs
-
-same-length-7 : tie.Need-same-length-7
-same-length-7 c = search needs
-
 returns-4 : tie.Need-returns-4
 returns-4 c =
     let a = c .before .before .before .before .before .before .before .before .before .before .before .before .before .args in
     drawn-34 (listsOf (a .book .now) (a .tallies .now) (a .reach .now)) (a .s) (a .p) (a .a) _ (c .before .before .before .before .before .before .before .before .before .meant .ensures) _ (c .before .before .draw .ensures) (sym (c .before .before .before .before .before .before .before .any-own .ensures) ∙ c .before .before .before .before .before .before .if1 .left) (c .enum-told2 .given .1)
-
-same-length-8 : tie.Need-same-length-8
-same-length-8 c = search needs
-
-same-length-9 : tie.Need-same-length-9
-same-length-9 c = search needs
-
-same-length-10 : tie.Need-same-length-10
-same-length-10 c = search needs
 
 returns-5 : tie.Need-returns-5
 returns-5 c =
@@ -104,29 +50,29 @@ pub choose-in-spec : {M : Type 1} → statement M
 choose-in-spec =
     tie.close
     (tie.spec
-    meant-requires
+    (λ c κs. search needs)
     any-own-requires
-    same-length
+    (λ c. search needs)
     returns
-    cast-draw
+    (λ c. search needs)
     draw-requires
-    enum-told
-    enum-told-2
-    enum-known-picked
-    cast-m
-    mul-if2
+    (λ c. search needs)
+    (λ c. search needs)
+    (λ c. search needs)
+    (λ c. search needs)
+    (λ c. search needs)
     add-if2
-    same-length-2
-    same-length-3
+    (λ c. search needs)
+    (λ c. search needs)
     returns-2
-    take-requires
-    same-length-4
-    same-length-5
+    (λ c κs. search needs)
+    (λ c. search needs)
+    (λ c. search needs)
     returns-3
-    same-length-6
-    same-length-7
+    (λ c. search needs)
+    (λ c. search needs)
     returns-4
-    same-length-8
-    same-length-9
-    same-length-10
+    (λ c. search needs)
+    (λ c. search needs)
+    (λ c. search needs)
     returns-5)

@@ -4,24 +4,6 @@ use borrow.Author.Needs.{needs}
 use Rattle.choosing.proofs.take.Statement.{statement}
 use Rattle.choosing.proofs.take.Tie as tie
 
-replaced-requires : tie.Need-replaced-requires
-replaced-requires c κs = search needs
-
-own-frames-requires : tie.Need-own-frames-requires
-own-frames-requires c κs = search needs
-
-place-requires : tie.Need-place-requires
-place-requires c κs = search needs
-
-same-length : tie.Need-same-length
-same-length c = search needs
-
-same-length-2 : tie.Need-same-length-2
-same-length-2 c = search needs
-
-same-length-3 : tie.Need-same-length-3
-same-length-3 c = search needs
-
 returns : tie.Need-returns
 returns c =
     let a = c .before .before .before .before .before .before .before .before .before .before .before .before .before .before .before .before .args in
@@ -31,10 +13,10 @@ pub take-spec : {M : Type 1} → statement M
 take-spec =
     tie.close
     (tie.spec
-    replaced-requires
-    own-frames-requires
-    place-requires
-    same-length
-    same-length-2
-    same-length-3
+    (λ c κs. search needs)
+    (λ c κs. search needs)
+    (λ c κs. search needs)
+    (λ c. search needs)
+    (λ c. search needs)
+    (λ c. search needs)
     returns)

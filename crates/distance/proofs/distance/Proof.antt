@@ -9,15 +9,6 @@ use Rattle.distance.proofs.Signs.{apart-small, round-le}
 use Rattle.distance.proofs.distance.Statement.{statement}
 use Rattle.distance.proofs.distance.Tie as tie
 
-gap-requires : tie.Need-gap-requires
-gap-requires c κs = search needs
-
-gap-requires-2 : tie.Need-gap-requires-2
-gap-requires-2 c κs = search needs
-
-short-way-requires : tie.Need-short-way-requires
-short-way-requires c κs = search needs
-
 add-result : tie.Need-add-result
 add-result c =
     let f = c .before .before .before .fits in
@@ -33,4 +24,4 @@ returns c =
     omega (arith, a, b)
 
 pub distance-spec : {M : Type 1} → statement M
-distance-spec = tie.close (tie.spec gap-requires gap-requires-2 short-way-requires add-result returns)
+distance-spec = tie.close (tie.spec (λ c κs. search needs) (λ c κs. search needs) (λ c κs. search needs) add-result returns)

@@ -10,9 +10,6 @@ use Rattle.distance.proofs.Reuse.{place-back, distance-back, we-unknown
 use Rattle.distance.proofs.reach.Statement.{statement}
 use Rattle.distance.proofs.reach.Tie as tie
 
-known-requires : tie.Need-known-requires
-known-requires c κs = search needs
-
 returns : tie.Need-returns
 returns c =
     let us = c .before in
@@ -27,9 +24,6 @@ returns-2 c =
     let t = us .before .struct-told2 .given in
     let we = us .known .ensures ∙ place-back _ _ (t .1 .0 .1) (t .1 .1 .0 .1) in
     is-base _ _ (sym we ∙ was-true (ours .if1 .left)) (c .if2 .taken)
-
-known-requires-2 : tie.Need-known-requires-2
-known-requires-2 c κs = search needs
 
 returns-3 : tie.Need-returns-3
 returns-3 c =
@@ -55,9 +49,6 @@ returns-4 c =
     let we = us .known .ensures ∙ place-back _ _ (t .1 .0 .1) (t .1 .1 .0 .1) in
     let it = them .known2 .ensures ∙ place-back _ _ (u .1 .0 .1) (u .1 .1 .0 .1) in
     held-off _ _ (sym we ∙ was-true (ours .if1 .left)) (mobile .if2 .left) (sym it ∙ was-true (seen .if3 .left)) (c .if4 .taken)
-
-distance-requires : tie.Need-distance-requires
-distance-requires c κs = search needs
 
 cast-result : tie.Need-cast-result
 cast-result c =
@@ -87,12 +78,12 @@ pub reach-spec : {M : Type 1} → statement M
 reach-spec =
     tie.close
     (tie.spec
-    known-requires
+    (λ c κs. search needs)
     returns
     returns-2
-    known-requires-2
+    (λ c κs. search needs)
     returns-3
     returns-4
-    distance-requires
+    (λ c κs. search needs)
     cast-result
     returns-5)

@@ -17,8 +17,5 @@ returns c = turned-size _ (c .before .fits .d) (c .before .pre)
 cast-result-2 : tie.Need-cast-result-2
 cast-result-2 c = plain-casts _ (c .before .fits .d) (c .before .pre) (c .if1 .left)
 
-returns-2 : tie.Need-returns-2
-returns-2 c = search needs
-
 pub size-spec : {M : Type 1} → statement M
-size-spec = tie.close (tie.spec sub-result cast-result returns cast-result-2 returns-2)
+size-spec = tie.close (tie.spec sub-result cast-result returns cast-result-2 (λ c. search needs))

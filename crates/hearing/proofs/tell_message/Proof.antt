@@ -5,21 +5,6 @@ use borrow.Author.Needs.{needs}
 use Rattle.hearing.proofs.tell_message.Statement.{statement}
 use Rattle.hearing.proofs.tell_message.Tie as tie
 
-enum-known-message : tie.Need-enum-known-message
-enum-known-message c = search needs
-
-enum-known-message-2 : tie.Need-enum-known-message-2
-enum-known-message-2 c = search needs
-
-enum-known-message-3 : tie.Need-enum-known-message-3
-enum-known-message-3 c = search needs
-
-enum-known-message-4 : tie.Need-enum-known-message-4
-enum-known-message-4 c = search needs
-
-enum-told : tie.Need-enum-told
-enum-told c = search needs
-
 returns : tie.Need-returns
 returns c =
     let m = c .before .before .message .given in
@@ -51,11 +36,11 @@ pub tell-message-spec : {M : Type 1} → statement M
 tell-message-spec =
     tie.close
     (tie.spec
-    enum-known-message
-    enum-known-message-2
-    enum-known-message-3
-    enum-known-message-4
-    enum-told
+    (λ c. search needs)
+    (λ c. search needs)
+    (λ c. search needs)
+    (λ c. search needs)
+    (λ c. search needs)
     returns
     returns-2
     returns-3

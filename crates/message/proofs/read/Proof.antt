@@ -6,20 +6,11 @@ use borrow.Author.Needs.{needs}
 use Rattle.message.proofs.read.Statement.{statement}
 use Rattle.message.proofs.read.Tie as tie
 
-head-of-requires : tie.Need-head-of-requires
-head-of-requires c κs = search needs
-
-enum-known-first : tie.Need-enum-known-first
-enum-known-first c = search needs
-
 message-in-requires : tie.Need-message-in-requires
 message-in-requires c κs =
     let d = c .before .before .before in
     let h = subst (Heads (d .before .before .args .bytes .now)) (c .before .first .given .1) (d .head-of .ensures) in
     (h .0, h .2)
-
-enum-known-first-2 : tie.Need-enum-known-first-2
-enum-known-first-2 c = search needs
 
 returns : tie.Need-returns
 returns c =
@@ -36,9 +27,9 @@ pub read-spec : {M : Type 1} → statement M
 read-spec =
     tie.close
     (tie.spec
-    head-of-requires
-    enum-known-first
+    (search needs)
+    (search needs)
     message-in-requires
-    enum-known-first-2
+    (search needs)
     returns
     returns-2)

@@ -1,5 +1,6 @@
 use Prim.Native.Nat.{ℕ}
 use mathlib.Core.List.{List}
+use Rattle.limits.specs.Limits.{messageBytes}
 use Rattle.bits.specs.Field.{packed}
 use Rattle.message.specs.Sheet.{sheetOf}
 use Rattle.message.specs.declared.Message.{Message}
@@ -21,53 +22,44 @@ returns : tie.Need-returns
 unfolding writeOut
 returns c = (write-room _ _ (c .if1 .taken), refl)
 
-sheet-of-requires : tie.Need-sheet-of-requires
-sheet-of-requires c κs = search needs
-
-enum-known-sheet : tie.Need-enum-known-sheet
-enum-known-sheet c = search needs
-
-enum-told : tie.Need-enum-told
-enum-told c = search needs
-
 returns-2 : tie.Need-returns-2
 unfolding writeOut
 returns-2 c = (write-unknown _ _ (c .before .before .before .if1 .left) (said (c .before .before .before .before .before .args .message) (c .before .before .sheet-of .ensures) (c .enum-told .given .1)), refl)
 
-fits-requires : tie.Need-fits-requires
-fits-requires c κs = search needs
-
 returns-3 : tie.Need-returns-3
 unfolding writeOut
 returns-3 c =
-    let h = said (c .before .before .before .before .before .before .before .before .args .message) (c .before .before .before .before .before .sheet-of .ensures) (c .before .before .before .sheet .given .1) in
-    (write-wide _ _ (c .before .before .before .before .before .before .if1 .left) (h .0) (sym (h .1 .0) ∙ sym (c .before .fits2 .ensures) ∙ was-false (c .if2 .taken)), refl)
+    let matched = c .before .before .before in
+    let made = matched .before .before in
+    let start = made .before .before .before in
+    let h = said (start .args .message) (made .sheet-of .ensures) (matched .sheet .given .1) in
+    (write-wide _ _ (made .before .if1 .left) (h .0) (sym (h .1 .0) ∙ sym (c .before .fits2 .ensures) ∙ was-false (c .if2 .taken)), refl)
 
 put-requires : tie.Need-put-requires
 put-requires c κs = (c .before .before .before .before .before .before .before .if1 .left, sym (c .before .before .fits2 .ensures) ∙ was-true (c .before .if2 .left))
 
-same-length : tie.Need-same-length
-same-length c = search needs
-
 returns-4 : tie.Need-returns-4
 unfolding writeOut bytesOf
 returns-4 c =
-    let f = c .before .before .before .before in
-    let h = said (c .before .before .before .before .before .before .before .before .before .before .before .before .args .message) (f .before .before .before .before .before .sheet-of .ensures) (f .before .before .before .sheet .given .1) in
-    let fit = sym (h .1 .0) ∙ sym (f .before .fits2 .ensures) ∙ was-true (f .if2 .left) in
-    (write-good _ _ (f .before .before .before .before .before .before .if1 .left) (h .0) fit, c .before .before .put .ensures ∙ ap (λ (bits : List ℕ). over (packed 21 bits) (c .before .before .before .before .before .before .before .before .before .before .before .before .args .out .now)) (h .1 .1 fit))
+    let tested = c .before .before .before .before in
+    let matched = tested .before .before .before in
+    let made = matched .before .before in
+    let start = made .before .before .before in
+    let h = said (start .args .message) (made .sheet-of .ensures) (matched .sheet .given .1) in
+    let fit = sym (h .1 .0) ∙ sym (tested .before .fits2 .ensures) ∙ was-true (tested .if2 .left) in
+    (write-good _ _ (made .before .if1 .left) (h .0) fit, c .before .before .put .ensures ∙ ap (λ (bits : List ℕ). over (packed messageBytes bits) (start .args .out .now)) (h .1 .1 fit))
 
 pub write-spec : {M : Type 1} → statement M
 write-spec =
     tie.close
     (tie.spec
     returns
-    sheet-of-requires
-    enum-known-sheet
-    enum-told
+    (search needs)
+    (search needs)
+    (search needs)
     returns-2
-    fits-requires
+    (search needs)
     returns-3
     put-requires
-    same-length
+    (search needs)
     returns-4)

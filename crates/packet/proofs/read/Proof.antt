@@ -21,9 +21,6 @@ returns-3 : tie.Need-returns-3
 unfolding readOut
 returns-3 c = (read-room _ _ (c .before .before .if1 .left) (c .before .if2 .left) (c .if3 .taken), refl)
 
-are-bits-requires : tie.Need-are-bits-requires
-are-bits-requires c κs = search needs
-
 returns-4 : tie.Need-returns-4
 unfolding readOut
 returns-4 c = (read-bits _ _ (c .before .before .before .before .if1 .left) (c .before .before .before .if2 .left) (c .before .before .if3 .left) (sym (c .before .are-bits .ensures) ∙ was-false (c .if4 .taken)), refl)
@@ -38,9 +35,6 @@ returns-5 c =
     let h = c .before .before .before .before .before .before .if1 .left in
     (read-flag _ _ h (c .before .before .before .before .before .if2 .left) (c .before .before .before .before .if3 .left) b (flagged-no _ (sym (first-flag _ b h (c .before .byte-at .ensures)) ∙ ne-eqb _ _ (c .if5 .taken))), refl)
 
-sub-byte-at : tie.Need-sub-byte-at
-sub-byte-at c = search needs
-
 byte-at-requires-2 : tie.Need-byte-at-requires-2
 byte-at-requires-2 c κs = (sym (c .before .before .before .are-bits .ensures) ∙ was-true (c .before .before .if4 .left), omega (arith, c .before .before .before .before .before .before .if1 .left))
 
@@ -54,9 +48,6 @@ returns-6 c =
 
 unpack-requires : tie.Need-unpack-requires
 unpack-requires c κs = (sym (c .before .before .before .before .before .before .are-bits .ensures) ∙ was-true (c .before .before .before .before .before .if4 .left), c .before .before .before .before .before .before .before .before .before .if1 .left, c .before .before .before .before .before .before .before .before .if2 .left, c .before .before .before .before .before .before .before .if3 .left)
-
-same-length : tie.Need-same-length
-same-length c = search needs
 
 returns-7 : tie.Need-returns-7
 returns-7 c =
@@ -74,13 +65,13 @@ read-spec =
     returns
     returns-2
     returns-3
-    are-bits-requires
+    (λ c κs. search needs)
     returns-4
     byte-at-requires
     returns-5
-    sub-byte-at
+    (λ c. search needs)
     byte-at-requires-2
     returns-6
     unpack-requires
-    same-length
+    (λ c. search needs)
     returns-7)

@@ -5,9 +5,6 @@ use Rattle.register.proofs.Records.{held-off, not-held, none-held}
 use Rattle.register.proofs.hold_after.Statement.{statement}
 use Rattle.register.proofs.hold_after.Tie as tie
 
-fallen-requires : tie.Need-fallen-requires
-fallen-requires c κs = search needs
-
 returns : tie.Need-returns
 returns c = held-off _ _ _ (c .before .if1 .taken) (c .if2 .taken)
 
@@ -18,4 +15,4 @@ returns-3 : tie.Need-returns-3
 returns-3 c = c .before .fallen .ensures ∙ none-held _ _ _ (c .if1 .left)
 
 pub hold-after-spec : {M : Type 1} → statement M
-hold-after-spec = tie.close (tie.spec fallen-requires returns returns-2 returns-3)
+hold-after-spec = tie.close (tie.spec (λ c κs. search needs) returns returns-2 returns-3)

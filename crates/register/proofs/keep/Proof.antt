@@ -6,14 +6,8 @@ use Rattle.register.proofs.Records.{made-new, not-new}
 use Rattle.register.proofs.keep.Statement.{statement}
 use Rattle.register.proofs.keep.Tie as tie
 
-blank-requires : tie.Need-blank-requires
-blank-requires c κs = search needs
-
 returns : tie.Need-returns
 returns c = let a = c .before .before .args in c .blank .ensures ∙ made-new (a .o) (a .s) (a .tally) (a .word) (c .before .if1 .taken)
-
-hold-after-requires : tie.Need-hold-after-requires
-hold-after-requires c κs = search needs
 
 returns-2 : tie.Need-returns-2
 returns-2 c =
@@ -23,4 +17,4 @@ returns-2 c =
     (toZ-ofZ (sfits-of (f .1 .1 .0 .1))) (toZ-ofZ (sfits-of (f .1 .1 .1 .0 .1)))
 
 pub keep-spec : {M : Type 1} → statement M
-keep-spec = tie.close (tie.spec blank-requires returns hold-after-requires returns-2)
+keep-spec = tie.close (tie.spec (λ c κs. search needs) returns (λ c κs. search needs) returns-2)

@@ -1,21 +1,16 @@
 -- `register::new_watch` meets its contract.
 use borrow.Author.Needs.{needs}
+use Rattle.limits.specs.Limits.{slotTimes}
 use Rattle.register.proofs.new_watch.Statement.{statement}
 use Rattle.register.proofs.new_watch.Tie as tie
-
-none-requires : tie.Need-none-requires
-none-requires c κs = search needs
-
-unknown-requires : tie.Need-unknown-requires
-unknown-requires c κs = search needs
 
 returns : tie.Need-returns
 returns c =
     λ i. record {
       present = 0;
-      channel = record { counts = record { free = 20250; own = 0 }; plan = record { rate = c .before .none .ensures .0 i; start = c .before .none .ensures .1 i } };
+      channel = record { counts = record { free = slotTimes; own = 0 }; plan = record { rate = c .before .none .ensures .0 i; start = c .before .none .ensures .1 i } };
       ship = c .unknown .ensures i;
     }
 
 pub new-watch-spec : {M : Type 1} → statement M
-new-watch-spec = tie.close (tie.spec none-requires unknown-requires returns)
+new-watch-spec = tie.close (tie.spec (λ c κs. search needs) (λ c κs. search needs) returns)

@@ -9,18 +9,9 @@ use borrow.Author.Needs.{needs}
 use Rattle.register.proofs.word_of.Statement.{statement}
 use Rattle.register.proofs.word_of.Tie as tie
 
-enum-told : tie.Need-enum-told
-enum-told c = search needs
-
 returns : tie.Need-returns
 unfolding wordOf
 returns c = let a = c .before .args in other-word (a .x .what) (a .x .watch) (a .x .passes) (a .s) (c .match .keys2)
-
-fallen-requires : tie.Need-fallen-requires
-fallen-requires c κs = search needs
-
-reach-requires : tie.Need-reach-requires
-reach-requires c κs = search needs
 
 returns-2 : tie.Need-returns-2
 returns-2 c =
@@ -36,4 +27,4 @@ returns-2 c =
     ∙ chosen-word (a .x) (a .s) _ (c .before .before .before .before .before .enum-told .given .1)
 
 pub word-of-spec : {M : Type 1} → statement M
-word-of-spec = tie.close (tie.spec enum-told returns fallen-requires reach-requires returns-2)
+word-of-spec = tie.close (tie.spec (λ c. search needs) returns (λ c κs. search needs) (λ c κs. search needs) returns-2)

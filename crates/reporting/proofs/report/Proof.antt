@@ -16,9 +16,6 @@ returns c = report-20 _ _ _ _ _ (other-book _ _ (c .if1 .taken))
 returns-2 : tie.Need-returns-2
 returns-2 c = report-20 _ _ _ _ _ (other-tallies _ _ (c .if2 .taken))
 
-good-requires : tie.Need-good-requires
-good-requires c κs = search needs
-
 returns-3 : tie.Need-returns-3
 returns-3 c =
     let g = c .before .good2 in
@@ -34,22 +31,10 @@ returns-5 c =
     let g = c .before .before .before .before .before .good2 in
     report-30 _ _ _ _ _ (right-sizes _ _ (search needs) (search needs)) (fits-is _ _ _ refl refl (g .result) (g .ensures) ∙ was-true (c .before .before .before .before .if3 .left)) (late-minute (c .before .before .before .before .before .before .before .before .before .before .args .time) (omega (arith, c .if5 .taken)))
 
-place-requires : tie.Need-place-requires
-place-requires c κs = search needs
-
-mul-if6 : tie.Need-mul-if6
-mul-if6 c = search needs
-
-shared-slice-read-if6 : tie.Need-shared-slice-read-if6
-shared-slice-read-if6 c = search needs
-
 returns-6 : tie.Need-returns-6
 returns-6 c =
     let g = c .before .before .before .before .before .before .before .before .good2 in
     report-36 _ _ _ _ _ (right-sizes _ _ (search needs) (search needs)) (fits-is _ _ _ refl refl (g .result) (g .ensures) ∙ was-true (c .before .before .before .before .before .before .before .if3 .left)) (right-time (c .before .before .before .before .before .before .before .before .before .before .before .before .before .args .time) (omega (arith, c .before .before .before .before .before .if4 .left)) (omega (arith, c .before .before .before .if5 .left))) (other-now _ _ _ (c .before .before .place .ensures) (c .if6 .taken))
-
-frames-own-requires : tie.Need-frames-own-requires
-frames-own-requires c κs = search needs
 
 sub-message-requires : tie.Need-sub-message-requires
 sub-message-requires c κs =
@@ -68,14 +53,14 @@ report-spec =
     (tie.spec
     returns
     returns-2
-    good-requires
+    (λ c κs. search needs)
     returns-3
     returns-4
     returns-5
-    place-requires
-    mul-if6
-    shared-slice-read-if6
+    (λ c κs. search needs)
+    (λ c. search needs)
+    (λ c. search needs)
     returns-6
-    frames-own-requires
+    (λ c κs. search needs)
     sub-message-requires
     returns-7)

@@ -6,9 +6,6 @@ use borrow.Author.Needs.{needs}
 use Rattle.reporting.proofs.sub_message.Statement.{statement}
 use Rattle.reporting.proofs.sub_message.Tie as tie
 
-next-own-requires : tie.Need-next-own-requires
-next-own-requires c κs = search needs
-
 cast-t9 : tie.Need-cast-t9
 cast-t9 c =
     let a = c .before .before .before .before .args in
@@ -20,26 +17,8 @@ returns c = say-offset _ _ _ _ _ _ _ (c .before .if1 .taken) (c .next-own .ensur
 returns-2 : tie.Need-returns-2
 returns-2 c = say-time _ _ _ _ _ _ (c .before .if1 .left) (c .if2 .taken)
 
-sub-t12 : tie.Need-sub-t12
-sub-t12 c = search needs
-
-cast-t14 : tie.Need-cast-t14
-cast-t14 c = search needs
-
-cast-t16 : tie.Need-cast-t16
-cast-t16 c = search needs
-
 returns-3 : tie.Need-returns-3
 returns-3 c = say-slot _ _ _ _ _ _ (c .before .before .if1 .left) (c .before .if2 .left) (c .if3 .taken)
-
-sub-t11 : tie.Need-sub-t11
-sub-t11 c = search needs
-
-cast-t19 : tie.Need-cast-t19
-cast-t19 c = search needs
-
-stations-requires : tie.Need-stations-requires
-stations-requires c κs = search needs
 
 cast-t21 : tie.Need-cast-t21
 cast-t21 c = omega (arith, c .stations .ensures, stations-most (c .before .before .before .before .before .before .args .tallies .now))
@@ -51,16 +30,16 @@ pub sub-message-spec : {M : Type 1} → statement M
 sub-message-spec =
     tie.close
     (tie.spec
-    next-own-requires
+    (λ c κs. search needs)
     cast-t9
     returns
     returns-2
-    sub-t12
-    cast-t14
-    cast-t16
+    (λ c. search needs)
+    (λ c. search needs)
+    (λ c. search needs)
     returns-3
-    sub-t11
-    cast-t19
-    stations-requires
+    (λ c. search needs)
+    (λ c. search needs)
+    (λ c κs. search needs)
     cast-t21
     returns-4)

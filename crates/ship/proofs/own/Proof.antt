@@ -12,14 +12,8 @@ use Rattle.ship.proofs.Places.{read-back}
 use Rattle.ship.proofs.own.Statement.{statement}
 use Rattle.ship.proofs.own.Tie as tie
 
-fair-requires : tie.Need-fair-requires
-fair-requires c κs = search needs
-
 returns : tie.Need-returns
 returns c = bad-source _ _ _ (sym (c .before .fair .ensures) ∙ was-false (c .if1 .taken))
-
-stated-requires : tie.Need-stated-requires
-stated-requires c κs = search needs
 
 returns-2 : tie.Need-returns-2
 returns-2 c =
@@ -37,4 +31,4 @@ returns-3 c =
     read-back ship (entry .fits .latitude) (entry .fits .longitude) ∙ done _ _ _ source (sym place ∙ was-true (c .if2 .left))
 
 pub own-spec : {M : Type 1} → statement M
-own-spec = tie.close (tie.spec fair-requires returns stated-requires returns-2 returns-3)
+own-spec = tie.close (tie.spec (λ c κs. search needs) returns (λ c κs. search needs) returns-2 returns-3)

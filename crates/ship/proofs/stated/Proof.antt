@@ -2,7 +2,7 @@
 -- Assumes nothing.
 use mathlib.Core.Path.{_∙_}
 use borrow.Author.Needs.{needs}
-use Rattle.message.specs.Message.{knownPlace}
+use Rattle.ship.specs.Ship.{knownPlace}
 use Rattle.ship.proofs.Places.{read-back, longitude-decides, own-elsewhere}
 use Rattle.ship.proofs.stated.Statement.{statement}
 use Rattle.ship.proofs.stated.Tie as tie
@@ -10,13 +10,10 @@ use Rattle.ship.proofs.stated.Tie as tie
 returns : tie.Need-returns
 returns c = let f = c .before .fits in longitude-decides _ _ (f .latitude) (f .longitude) (c .if1 .taken)
 
-known-requires : tie.Need-known-requires
-known-requires c κs = search needs
-
 returns-2 : tie.Need-returns-2
 returns-2 c =
     let f = c .before .before .fits in
     c .known .ensures ∙ read-back knownPlace (f .latitude) (f .longitude) ∙ own-elsewhere _ _ (c .before .if1 .left)
 
 pub stated-spec : {M : Type 1} → statement M
-stated-spec = tie.close (tie.spec returns known-requires returns-2)
+stated-spec = tie.close (tie.spec returns (λ c κs. search needs) returns-2)

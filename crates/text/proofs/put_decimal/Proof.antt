@@ -5,6 +5,7 @@ use Prim.Native.Nat.{_+_}
 use native.Mathlib.Omega.{arith}
 use lib.ListN.{length}
 use borrow.Author.Needs.{needs}
+use Rattle.limits.specs.Limits.{mostDigits}
 use Rattle.text.proofs.Digits.{Filling, start, above, turn, long-set, end, short}
 use Rattle.text.proofs.Parts.{copied}
 use Rattle.text.proofs.put_decimal.Statement.{statement}
@@ -56,10 +57,7 @@ part-copy-end : tie.Need-part-copy-end Inv-loop μ-loop
 part-copy-end c = omega (arith, long-set _ _ _ _ (48 + c .before .before .loop .rest) (c .before .before .loop .inv))
 
 copy-requires : tie.Need-copy-requires Inv-loop μ-loop
-copy-requires c κs = omega (arith, ap length (end _ _ _ _ (omega arith) (c .before .before .before .before .loop .inv)), short 20 (c .before .before .before .before .before .before .args .n))
-
-same-length : tie.Need-same-length Inv-loop μ-loop
-same-length c = search needs
+copy-requires c κs = omega (arith, ap length (end _ _ _ _ (omega arith) (c .before .before .before .before .loop .inv)), short mostDigits (c .before .before .before .before .before .before .args .n))
 
 returns : tie.Need-returns Inv-loop μ-loop
 returns c =
@@ -68,4 +66,4 @@ returns c =
     (r .0 ∙ ap length e, copied _ _ _ _ e (r .1))
 
 pub put-decimal-spec : {M : Type 1} → statement M
-put-decimal-spec = tie.close (tie.spec Inv-loop μ-loop loop-holds cast-text add-text array-write-text sub-i loop-less loop-again cast-text-2 add-text-2 array-write-text-2 sub-copy part-copy-start part-copy-end copy-requires same-length returns)
+put-decimal-spec = tie.close (tie.spec Inv-loop μ-loop loop-holds cast-text add-text array-write-text sub-i loop-less loop-again cast-text-2 add-text-2 array-write-text-2 sub-copy part-copy-start part-copy-end copy-requires (λ c. search needs) returns)

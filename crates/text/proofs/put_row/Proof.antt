@@ -4,6 +4,7 @@ use mathlib.Core.Path.{refl, ap, _∙_}
 use Prim.Native.Nat.{_-_}
 use native.Mathlib.Omega.{arith}
 use lib.ListN.{length, getD, length-take, length-drop}
+use Rattle.limits.specs.Limits.{mostDigits}
 use Rattle.text.proofs.Digits.{short}
 use Rattle.text.proofs.Parts.{length-over, copied}
 use Rattle.text.proofs.Rows.{Written, start, fits, long, turn, end}
@@ -46,7 +47,7 @@ add-at : tie.Need-add-at Inv-loop μ-loop
 add-at c =
     let l = c .before .before .before .before .before .before .loop in
     let s = c .before .before .before .before .before .before .before .before .before .before .before .before .before .before in
-    record { fits = omega (arith, fits (l .inv), long (l .inv), c .before .before .put-number .ensures .0, short 20 (getD (s .args .numbers .now) (l .i) 0)) }
+    record { fits = omega (arith, fits (l .inv), long (l .inv), c .before .before .put-number .ensures .0, short mostDigits (getD (s .args .numbers .now) (l .i) 0)) }
 
 add-i : tie.Need-add-i Inv-loop μ-loop
 add-i c = omega arith

@@ -1,23 +1,20 @@
-use Rattle.announcing.proofs.Booking.{booked}
+use mathlib.Core.Path.{_∙_, ap}
+use Prim.Native.Nat.{ℕ}
+use Rattle.book.specs.Book.{Book, place, markAt}
+use Rattle.announcing.specs.Rows.{marksTime, atTimes, booked}
 use borrow.Author.Needs.{needs}
 use Rattle.announcing.proofs.marks.book_times.Statement.{statement}
 use Rattle.announcing.proofs.marks.book_times.Tie as tie
 
-frames-requires : tie.Need-frames-requires
-frames-requires c κs = search needs
-
-block-requires : tie.Need-block-requires
-block-requires c κs = search needs
-
-same-length : tie.Need-same-length
-same-length c = search needs
-
-same-length-2 : tie.Need-same-length-2
-same-length-2 c = search needs
-
 returns : tie.Need-returns
-returns c = booked _ _ (c .before .before .before .before .before .before .before .before .before .before .before .before .before .before .before .before .args .a) _ _ _ (c .before .before .before .before .before .before .before .before .before .before .before .frames .ensures) (c .before .before .before .before .block .ensures)
+unfolding booked
+returns c =
+    let a = c .before .before .before .before .before .before .before .before .before .before .before .before .before .before .before .before .args in
+    let freed = c .before .before .before .before .before .before .before .before .before .before .before .free-times .ensures in
+    let marked = c .before .before .before .before .mark-times .ensures in
+    let marks : Book → Book = λ b. atTimes (marksTime (a .rows)) (λ (x : Book) (d : ℕ). markAt x (place (a .present) d) (a .h)) b in
+    (marked .0 ∙ ap marks freed, marked .1)
 
 pub book-times-spec : {M : Type 1} → statement M
 book-times-spec =
-    tie.close (tie.spec frames-requires block-requires same-length same-length-2 returns)
+    tie.close (tie.spec (λ c κs. search needs) (λ c κs. search needs) (search needs) (search needs) returns)

@@ -6,17 +6,8 @@ use borrow.Author.Needs.{needs}
 use Rattle.bits.proofs.field.put_word.Statement.{statement}
 use Rattle.bits.proofs.field.put_word.Tie as tie
 
-swapped-requires : tie.Need-swapped-requires
-swapped-requires c κs = search needs
-
-store-eight-requires : tie.Need-store-eight-requires
-store-eight-requires c κs = search needs
-
-same-length : tie.Need-same-length
-same-length c = search needs
-
 returns : tie.Need-returns
 returns c = c .before .before .store-eight .ensures ∙ ap (sets _ _) (ap eightOf (c .before .before .before .swapped .ensures) ∙ swap-bytes _)
 
 pub put-word-spec : {M : Type 1} → statement M
-put-word-spec = tie.close (tie.spec swapped-requires store-eight-requires same-length returns)
+put-word-spec = tie.close (tie.spec (search needs) (search needs) (search needs) returns)

@@ -7,52 +7,19 @@ use borrow.Author.Needs.{needs}
 use Rattle.bits.proofs.row.put_four.Statement.{statement}
 use Rattle.bits.proofs.row.put_four.Tie as tie
 
-cast-two : tie.Need-cast-two
-cast-two c = search needs
-
-shl-two : tie.Need-shl-two
-shl-two c = search needs
-
-cast-two-2 : tie.Need-cast-two-2
-cast-two-2 c = search needs
-
 add-two : tie.Need-add-two
 add-two c = record { fits = two-64 _ _ _ _ _ (c .before .before .before .pre .5) (c .before .before .before .pre .2) }
-
-shl-three : tie.Need-shl-three
-shl-three c = search needs
-
-cast-three : tie.Need-cast-three
-cast-three c = search needs
 
 add-three : tie.Need-add-three
 add-three c = record { fits = three-64 _ _ _ _ _ (c .before .before .before .before .pre .5) (c .before .before .before .before .pre .2) }
 
-shl-all : tie.Need-shl-all
-shl-all c = search needs
-
-cast-all : tie.Need-cast-all
-cast-all c = search needs
-
 add-all : tie.Need-add-all
 add-all c = record { fits = four-64 _ _ _ _ _ (c .before .before .before .before .before .pre .5) (c .before .before .before .before .before .pre .2) }
-
-add-put-field : tie.Need-add-put-field
-add-put-field c = search needs
-
-add-put-field-2 : tie.Need-add-put-field-2
-add-put-field-2 c = search needs
-
-add-put-field-3 : tie.Need-add-put-field-3
-add-put-field-3 c = search needs
 
 put-field-requires : tie.Need-put-field-requires
 put-field-requires c κs =
     let p = c .before .before .before .before .before .before .pre in
     (p .0, omega arith, p .2, p .3, p .4, rw (four-is _ _ _ _ _ (p .5) (p .2)) (four-fits _ _ _ _ _ (p .5)))
-
-same-length : tie.Need-same-length
-same-length c = search needs
 
 returns : tie.Need-returns
 returns c =
@@ -64,19 +31,19 @@ pub put-four-spec : {M : Type 1} → statement M
 put-four-spec =
     tie.close
     (tie.spec
-    cast-two
-    shl-two
-    cast-two-2
+    (search needs)
+    (search needs)
+    (search needs)
     add-two
-    shl-three
-    cast-three
+    (search needs)
+    (search needs)
     add-three
-    shl-all
-    cast-all
+    (search needs)
+    (search needs)
     add-all
-    add-put-field
-    add-put-field-2
-    add-put-field-3
+    (search needs)
+    (search needs)
+    (search needs)
     put-field-requires
-    same-length
+    (search needs)
     returns)

@@ -4,11 +4,8 @@ use borrow.Author.Needs.{needs}
 use Rattle.bits.proofs.turn.turn.Statement.{statement}
 use Rattle.bits.proofs.turn.turn.Tie as tie
 
-element-copy-out-result : tie.Need-element-copy-out-result
-element-copy-out-result c = search needs
-
 returns : tie.Need-returns
 returns c = byte-entry turned (c .before .args .b) (c .before .pre) (search needs)
 
 pub turn-spec : {M : Type 1} → statement M
-turn-spec = tie.close (tie.spec element-copy-out-result returns)
+turn-spec = tie.close (tie.spec (search needs) returns)

@@ -5,45 +5,18 @@ use borrow.Author.Needs.{needs}
 use Rattle.board.proofs.messages.qs_message_write.Statement.{statement}
 use Rattle.board.proofs.messages.qs_message_write.Tie as tie
 
-number-requires : tie.Need-number-requires
-number-requires c κs = search needs
-
 returns : tie.Need-returns
 unfolding writeOut
 returns c = refused _ _ _ (said-room _ _ (c .before .if1 .taken)) (c .number .ensures) refl
-
-number-requires-2 : tie.Need-number-requires-2
-number-requires-2 c κs = search needs
 
 returns-2 : tie.Need-returns-2
 unfolding writeOut
 returns-2 c = refused _ _ _ (said-short _ _ (c .before .before .if1 .left) (c .before .if2 .taken)) (c .number2 .ensures) refl
 
-message-in-requires : tie.Need-message-in-requires
-message-in-requires c κs = search needs
-
-write-requires : tie.Need-write-requires
-write-requires c κs = search needs
-
-enum-told : tie.Need-enum-told
-enum-told c = search needs
-
-enum-known-answer : tie.Need-enum-known-answer
-enum-known-answer c = search needs
-
-number-requires-3 : tie.Need-number-requires-3
-number-requires-3 c κs = search needs
-
-same-length : tie.Need-same-length
-same-length c = search needs
-
 returns-3 : tie.Need-returns-3
 returns-3 c =
     let w = c .before .before .before .before in
     handed _ _ (w .before .before .before .before .if1 .left) (w .before .before .before .if2 .left) (w .before .before .message-in .ensures) (w .write .ensures) (c .enum-told .given .1) refl
-
-same-length-2 : tie.Need-same-length-2
-same-length-2 c = search needs
 
 returns-4 : tie.Need-returns-4
 returns-4 c =
@@ -54,16 +27,16 @@ pub qs-message-write-spec : {M : Type 1} → statement M
 qs-message-write-spec =
     tie.close
     (tie.spec
-    number-requires
+    (λ c κs. search needs)
     returns
-    number-requires-2
+    (λ c κs. search needs)
     returns-2
-    message-in-requires
-    write-requires
-    enum-told
-    enum-known-answer
-    number-requires-3
-    same-length
+    (λ c κs. search needs)
+    (λ c κs. search needs)
+    (λ c. search needs)
+    (λ c. search needs)
+    (λ c κs. search needs)
+    (λ c. search needs)
     returns-3
-    same-length-2
+    (λ c. search needs)
     returns-4)

@@ -13,25 +13,10 @@ returns c = (plan-20 _ _ _ _ _ (other-book _ _ (c .if1 .taken)), refl)
 returns-2 : tie.Need-returns-2
 returns-2 c = (plan-20 _ _ _ _ _ (other-tallies _ _ (c .if2 .taken)), refl)
 
-changed-requires : tie.Need-changed-requires
-changed-requires c κs = search needs
-
-good-requires : tie.Need-good-requires
-good-requires c κs = search needs
-
 returns-3 : tie.Need-returns-3
 returns-3 c =
     let q = c .before .before .changed in
     (plan-30 _ _ _ _ _ (right-sizes _ _ (search needs) (search needs)) (fits-is _ _ _ (q .ensures .0) (q .ensures .1) (c .before .good2 .result) (c .before .good2 .ensures) ∙ was-false (c .if3 .taken)), refl)
-
-release-requires : tie.Need-release-requires
-release-requires c κs = search needs
-
-same-length : tie.Need-same-length
-same-length c = search needs
-
-same-length-2 : tie.Need-same-length-2
-same-length-2 c = search needs
 
 returns-4 : tie.Need-returns-4
 unfolding replanned
@@ -47,10 +32,10 @@ plan-spec =
     (tie.spec
     returns
     returns-2
-    changed-requires
-    good-requires
+    (λ c κs. search needs)
+    (λ c κs. search needs)
     returns-3
-    release-requires
-    same-length
-    same-length-2
+    (λ c κs. search needs)
+    (λ c. search needs)
+    (λ c. search needs)
     returns-4)

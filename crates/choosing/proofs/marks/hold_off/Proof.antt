@@ -7,21 +7,6 @@ use Rattle.choosing.proofs.marks.hold_off.Tie as tie
 returns : tie.Need-returns
 returns c = off-none _ _ (c .if1 .taken)
 
-sub-k : tie.Need-sub-k
-sub-k c = search needs
-
-cast-k : tie.Need-cast-k
-cast-k c = search needs
-
-mul-reach : tie.Need-mul-reach
-mul-reach c = search needs
-
-slice-write-reach : tie.Need-slice-write-reach
-slice-write-reach c = search needs
-
-same-length : tie.Need-same-length
-same-length c = search needs
-
 returns-2 : tie.Need-returns-2
 returns-2 c = off-station _ (c .before .before .args .h) (omega arith)
 
@@ -31,4 +16,4 @@ returns-3 c = off-other (c .before .before .args .reach .now) (c .before .before
 pub hold-off-spec : {M : Type 1} → statement M
 hold-off-spec =
     tie.close
-    (tie.spec returns sub-k cast-k mul-reach slice-write-reach same-length returns-2 returns-3)
+    (tie.spec returns (λ c. search needs) (λ c. search needs) (λ c. search needs) (λ c. search needs) (λ c. search needs) returns-2 returns-3)

@@ -4,7 +4,7 @@ use Prim.Native.Nat.{_≤_, _+_, _-_}
 use native.Mathlib.Omega.{arith}
 use Rattle.laws.specs.Ranges.{some}
 use Rattle.laws.proofs.Ranges.{some-none, some-miss, some-hit}
-use Rattle.choice.specs.Slot.{isOwn, holderAt}
+use Rattle.candidates.specs.Slot.{isOwn, holderAt}
 use Rattle.choosing.specs.Choosing.{anyOwn}
 use Rattle.choosing.proofs.Meaning.{own-there, other-there}
 use borrow.Author.Needs.{needs}
@@ -20,29 +20,11 @@ abbrev μ-loop : tie.MeasureT-loop
 loop-holds : tie.Need-loop-holds Inv-loop μ-loop
 loop-holds c = (search needs, some-none _)
 
-add-place : tie.Need-add-place Inv-loop μ-loop
-add-place c = search needs
-
-place-requires : tie.Need-place-requires Inv-loop μ-loop
-place-requires c κs = search needs
-
-mul-if2 : tie.Need-mul-if2 Inv-loop μ-loop
-mul-if2 c = search needs
-
-shared-slice-read-if2 : tie.Need-shared-slice-read-if2 Inv-loop μ-loop
-shared-slice-read-if2 c = search needs
-
 returns : tie.Need-returns Inv-loop μ-loop
 unfolding anyOwn
 returns c =
     let a = c .before .before .before .before .before .before .before .before .args in
     some-hit (λ j. isOwn (holderAt (a .book .now) (a .v .present) (a .v .first + j))) (c .before .before .before .before .before .before .loop .i) (a .v .width) (omega arith) (own-there _ _ _ _ (c .before .before .place .ensures) (c .if2 .taken))
-
-add-i : tie.Need-add-i Inv-loop μ-loop
-add-i c = search needs
-
-loop-less : tie.Need-loop-less Inv-loop μ-loop
-loop-less c = search needs
 
 loop-again : tie.Need-loop-again Inv-loop μ-loop
 loop-again c =
@@ -64,12 +46,12 @@ any-own-spec =
     Inv-loop
     μ-loop
     loop-holds
-    add-place
-    place-requires
-    mul-if2
-    shared-slice-read-if2
+    (λ c. search needs)
+    (λ c κs. search needs)
+    (λ c. search needs)
+    (λ c. search needs)
     returns
-    add-i
-    loop-less
+    (λ c. search needs)
+    (λ c. search needs)
     loop-again
     returns-2)

@@ -6,11 +6,8 @@ use Rattle.hearing.proofs.station.fair.Tie as tie
 returns : tie.Need-returns
 returns c = fair-own _ _ (c .if1 .taken)
 
-fair-requires : tie.Need-fair-requires
-fair-requires c κs = search needs
-
 returns-2 : tie.Need-returns-2
 returns-2 c = fair-other _ _ _ (c .before .if1 .left) (c .fair .ensures)
 
 pub fair-spec : {M : Type 1} → statement M
-fair-spec = tie.close (tie.spec returns fair-requires returns-2)
+fair-spec = tie.close (tie.spec returns (λ c κs. search needs) returns-2)

@@ -4,87 +4,15 @@ use borrow.Author.Needs.{needs}
 use Rattle.listing.proofs.getting.report_in.Statement.{statement}
 use Rattle.listing.proofs.getting.report_in.Tie as tie
 
-shared-slice-copy-out-turn : tie.Need-shared-slice-copy-out-turn
-shared-slice-copy-out-turn c = search needs
-
-shared-slice-copy-out-longitude : tie.Need-shared-slice-copy-out-longitude
-shared-slice-copy-out-longitude c = search needs
-
-shared-slice-copy-out-latitude : tie.Need-shared-slice-copy-out-latitude
-shared-slice-copy-out-latitude c = search needs
-
-plain-at-requires : tie.Need-plain-at-requires
-plain-at-requires c κs = search needs
-
-plain-at-requires-2 : tie.Need-plain-at-requires-2
-plain-at-requires-2 c κs = search needs
-
-plain-at-requires-3 : tie.Need-plain-at-requires-3
-plain-at-requires-3 c κs = search needs
-
-plain-at-requires-4 : tie.Need-plain-at-requires-4
-plain-at-requires-4 c κs = search needs
-
-plain-at-requires-5 : tie.Need-plain-at-requires-5
-plain-at-requires-5 c κs = search needs
-
-plain-at-requires-6 : tie.Need-plain-at-requires-6
-plain-at-requires-6 c κs = search needs
-
-plain-at-requires-7 : tie.Need-plain-at-requires-7
-plain-at-requires-7 c κs = search needs
-
-plain-at-requires-8 : tie.Need-plain-at-requires-8
-plain-at-requires-8 c κs = search needs
-
-plain-at-requires-9 : tie.Need-plain-at-requires-9
-plain-at-requires-9 c κs = search needs
-
-plain-at-requires-10 : tie.Need-plain-at-requires-10
-plain-at-requires-10 c κs = search needs
-
-plain-at-requires-11 : tie.Need-plain-at-requires-11
-plain-at-requires-11 c κs = search needs
-
 returns : tie.Need-returns
 unfolding reportIn
 returns c =
-    let d = c .before .before .before .before .before in
-    let e = d .before .before .before .before .before in
-    let f = e .before .before .before .before .args .list .now in
-    λ j. record {
-      repeat = e .plain-at .ensures j;
-      source = d .before .before .before .before .plain-at2 .ensures j;
-      status = d .before .before .before .plain-at3 .ensures j;
-      turn = back (signedAt f 4) (e .before .before .before .turn .given) j;
-      speed = d .before .before .plain-at4 .ensures j;
-      accuracy = d .before .plain-at5 .ensures j;
-      longitude = back (signedAt f 7) (e .before .before .longitude .given) j;
-      latitude = back (signedAt f 8) (e .before .latitude .given) j;
-      course = d .plain-at6 .ensures j;
-      heading = c .before .before .before .before .plain-at7 .ensures j;
-      second = c .before .before .before .plain-at8 .ensures j;
-      manoeuvre = c .before .before .plain-at9 .ensures j;
-      spare = c .before .plain-at10 .ensures j;
-      raim = c .plain-at11 .ensures j;
-    }
+    let read = c .before .before .before .before .before .before in
+    let l = read .before .before .before .args .list .now in
+    let turn = back (signedAt l 4) (read .before .before .turn .given) in
+    let longitude = back (signedAt l 7) (read .before .longitude .given) in
+    let latitude = back (signedAt l 8) (read .latitude .given) in
+    cc
 
 pub report-in-spec : {M : Type 1} → statement M
-report-in-spec =
-    tie.close
-    (tie.spec
-    shared-slice-copy-out-turn
-    shared-slice-copy-out-longitude
-    shared-slice-copy-out-latitude
-    plain-at-requires
-    plain-at-requires-2
-    plain-at-requires-3
-    plain-at-requires-4
-    plain-at-requires-5
-    plain-at-requires-6
-    plain-at-requires-7
-    plain-at-requires-8
-    plain-at-requires-9
-    plain-at-requires-10
-    plain-at-requires-11
-    returns)
+report-in-spec = tie.close (tie.spec (search needs) (search needs) (search needs) (search needs) (search needs) (search needs) (search needs) (search needs) (search needs) returns)

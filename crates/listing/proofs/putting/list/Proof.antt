@@ -8,20 +8,12 @@ use Rattle.message.specs.declared.state.Incremental.{Incremental}
 use Rattle.message.proofs.Readings.{message-three}
 use Rattle.message.proofs.RoundTrip.{report-fits, incremental-fits}
 use Rattle.listing.specs.Listing.{reportNumbers, incrementalNumbers, numbersOf}
+use Rattle.listing.proofs.Fits.{report-small}
 use Rattle.listing.proofs.Stored.{stored}
 use Rattle.listing.proofs.Straight.{was-increasing, was-organised}
 use borrow.Author.Needs.{needs}
 use Rattle.listing.proofs.putting.list.Statement.{statement}
 use Rattle.listing.proofs.putting.list.Tie as tie
-
-state-in-requires : tie.Need-state-in-requires
-state-in-requires c κs = search needs
-
-enum-known-state : tie.Need-enum-known-state
-enum-known-state c = search needs
-
-enum-told : tie.Need-enum-told
-enum-told c = search needs
 
 list-organised-requires : tie.Need-list-organised-requires
 list-organised-requires c κs =
@@ -29,21 +21,12 @@ list-organised-requires c κs =
     let p = d .before .before .pre in
     (p .0, p .1, p .2, was-organised _ _ (p .1 .0) _ (sym (d .state-in .ensures) ∙ c .before .enum-told .given .1), p .3)
 
-same-length : tie.Need-same-length
-same-length c = search needs
-
-returns : tie.Need-returns
-returns c = search needs
-
-report-in-requires : tie.Need-report-in-requires
-report-in-requires c κs = search needs
-
 put-report-requires : tie.Need-put-report-requires
 put-report-requires c κs =
     let d = c .before .before .before .before .before in
     let p = d .before .before .pre in
     let w = was-increasing _ _ (p .1 .0) _ (sym (d .state-in .ensures) ∙ c .before .before .before .state .given .1) in
-    (p .3, ap (λ (r : Report). allFit (reportRow 3 r)) (c .before .report-in .ensures) ∙ report-fits _ 3 (w .0))
+    (p .3, report-small 3 _ (ap (λ (r : Report). allFit (reportRow 3 r)) (c .before .report-in .ensures) ∙ report-fits _ 3 (w .0)))
 
 put-incremental-requires : tie.Need-put-incremental-requires
 put-incremental-requires c κs =
@@ -51,9 +34,6 @@ put-incremental-requires c κs =
     let p = d .before .before .pre in
     let w = was-increasing _ _ (p .1 .0) _ (sym (d .state-in .ensures) ∙ c .before .before .before .before .before .before .state .given .1) in
     (omega (arith, c .before .before .put-report .kept .1 .1 .0, p .3), ap (λ (i : Incremental). allFit (incrementalRow i)) (w .1) ∙ incremental-fits _)
-
-same-length-2 : tie.Need-same-length-2
-same-length-2 c = search needs
 
 returns-2 : tie.Need-returns-2
 unfolding numbersOf
@@ -69,14 +49,14 @@ pub list-spec : {M : Type 1} → statement M
 list-spec =
     tie.close
     (tie.spec
-    state-in-requires
-    enum-known-state
-    enum-told
+    (search needs)
+    (search needs)
+    (search needs)
     list-organised-requires
-    same-length
-    returns
-    report-in-requires
+    (search needs)
+    (λ c. search needs)
+    (search needs)
     put-report-requires
     put-incremental-requires
-    same-length-2
+    (search needs)
     returns-2)

@@ -8,25 +8,17 @@ use Rattle.message.specs.declared.Report.{Report}
 use Rattle.message.specs.declared.Base.{Base}
 use Rattle.message.proofs.RoundTrip.{report-fits, base-fits}
 use Rattle.listing.specs.Listing.{reportNumbers, baseNumbers, organisedNumbers}
+use Rattle.listing.proofs.Fits.{report-small, base-small}
 use Rattle.listing.proofs.Stored.{at-most-five, stored}
 use Rattle.listing.proofs.Straight.{numbers-base, numbers-report}
 use borrow.Author.Needs.{needs}
 use Rattle.listing.proofs.putting.list_organised.Statement.{statement}
 use Rattle.listing.proofs.putting.list_organised.Tie as tie
 
-base-in-requires : tie.Need-base-in-requires
-base-in-requires c κs = search needs
-
 put-base-requires : tie.Need-put-base-requires
 put-base-requires c κs =
     let s = c .before .before .before .before in
-    (s .pre .4, ap (λ (b : Base). allFit (baseRow b)) (c .before .base-in .ensures) ∙ base-fits _ (sym (s .pre .1 .0) ∙ c .before .before .if1 .taken))
-
-put-organised-requires : tie.Need-put-organised-requires
-put-organised-requires c κs = search needs
-
-same-length : tie.Need-same-length
-same-length c = search needs
+    (s .pre .4, base-small _ (ap (λ (b : Base). allFit (baseRow b)) (c .before .base-in .ensures) ∙ base-fits _ (sym (s .pre .1 .0) ∙ c .before .before .if1 .taken)))
 
 returns : tie.Need-returns
 returns c =
@@ -37,19 +29,10 @@ returns c =
     let first = d .put-base .ensures ∙ ap (λ (b : Base). sets out 0 (baseNumbers b)) (d .before .before .base-in .ensures) in
     stored _ (baseNumbers (baseOf l)) (organisedNumbers (organisedOf l)) out _ _ _ 16 (numbers-base l (s .pre .3) (sym (s .pre .1 .0) ∙ d .before .before .before .if1 .taken)) refl (omega (arith, at-most-five (organisedOf l), s .pre .4)) first (c .before .put-organised .ensures)
 
-report-in-requires : tie.Need-report-in-requires
-report-in-requires c κs = search needs
-
 put-report-requires : tie.Need-put-report-requires
 put-report-requires c κs =
     let s = c .before .before .before .before in
-    (s .pre .4, ap (λ (r : Report). allFit (reportRow (s .args .head .a) r)) (c .before .report-in .ensures) ∙ report-fits _ _ (sym (s .pre .1 .0)))
-
-put-organised-requires-2 : tie.Need-put-organised-requires-2
-put-organised-requires-2 c κs = search needs
-
-same-length-2 : tie.Need-same-length-2
-same-length-2 c = search needs
+    (s .pre .4, report-small _ _ (ap (λ (r : Report). allFit (reportRow (s .args .head .a) r)) (c .before .report-in .ensures) ∙ report-fits _ _ (sym (s .pre .1 .0))))
 
 returns-2 : tie.Need-returns-2
 returns-2 c =
@@ -66,13 +49,13 @@ pub list-organised-spec : {M : Type 1} → statement M
 list-organised-spec =
     tie.close
     (tie.spec
-    base-in-requires
+    (search needs)
     put-base-requires
-    put-organised-requires
-    same-length
+    (search needs)
+    (search needs)
     returns
-    report-in-requires
+    (search needs)
     put-report-requires
-    put-organised-requires-2
-    same-length-2
+    (search needs)
+    (search needs)
     returns-2)

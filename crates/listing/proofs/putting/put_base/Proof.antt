@@ -1,115 +1,17 @@
-use mathlib.Core.Path.{_∙_}
-use mathlib.Core.List.{[], _∷_}
-use native.Mathlib.Omega.{arith}
-use lib.IntN.{pos}
-use lib.Seq.{sets}
 use Rattle.listing.proofs.Said.{back}
-use Rattle.listing.proofs.Fits.{fits, exact}
 use borrow.Author.Needs.{needs}
 use Rattle.listing.proofs.putting.put_base.Statement.{statement}
 use Rattle.listing.proofs.putting.put_base.Tie as tie
 
-cast-put-four : tie.Need-cast-put-four
-cast-put-four c = fits _ (c .before .before .before .before .pre .1) 1 tt
-
-cast-put-four-2 : tie.Need-cast-put-four-2
-cast-put-four-2 c = fits _ (c .before .before .before .before .before .pre .1) 2 tt
-
-cast-put-four-3 : tie.Need-cast-put-four-3
-cast-put-four-3 c = fits _ (c .before .before .before .before .before .before .pre .1) 3 tt
-
-put-four-requires : tie.Need-put-four-requires
-put-four-requires c κs = search needs
-
-cast-put-four-4 : tie.Need-cast-put-four-4
-cast-put-four-4 c = fits _ (c .before .before .before .before .before .before .before .before .before .before .pre .1) 4 tt
-
-cast-put-four-5 : tie.Need-cast-put-four-5
-cast-put-four-5 c = fits _ (c .before .before .before .before .before .before .before .before .before .before .before .pre .1) 5 tt
-
-cast-put-four-6 : tie.Need-cast-put-four-6
-cast-put-four-6 c = fits _ (c .before .before .before .before .before .before .before .before .before .before .before .before .pre .1) 6 tt
-
-cast-put-four-7 : tie.Need-cast-put-four-7
-cast-put-four-7 c = fits _ (c .before .before .before .before .before .before .before .before .before .before .before .before .before .pre .1) 7 tt
-
-put-four-requires-2 : tie.Need-put-four-requires-2
-put-four-requires-2 c κs =
-    let f = c .before .before .before .before .before .before in
-    omega (arith, f .put-four .kept .0, f .before .before .before .before .before .before .before .pre .0)
-
-cast-put-four-8 : tie.Need-cast-put-four-8
-cast-put-four-8 c = fits _ (c .before .before .before .before .before .before .before .before .before .before .before .before .before .before .before .before .before .pre .1) 8 tt
-
-cast-put-four-9 : tie.Need-cast-put-four-9
-cast-put-four-9 c = fits _ (c .before .before .before .before .before .before .before .before .before .before .before .before .before .before .before .before .before .before .pre .1) 9 tt
-
-put-four-requires-3 : tie.Need-put-four-requires-3
-put-four-requires-3 c κs =
-    let e = c .before .before .before .before in
-    let f = e .before .before .before .before .before .before .before in
-    omega (arith, e .put-four2 .kept .0, f .put-four .kept .0, f .before .before .before .before .before .before .before .pre .0)
-
-cast-put-four-10 : tie.Need-cast-put-four-10
-cast-put-four-10 c = fits _ (c .before .before .before .before .before .before .before .before .before .before .before .before .before .before .before .before .before .before .before .before .before .before .pre .1) 12 tt
-
-cast-put-four-11 : tie.Need-cast-put-four-11
-cast-put-four-11 c = fits _ (c .before .before .before .before .before .before .before .before .before .before .before .before .before .before .before .before .before .before .before .before .before .before .before .pre .1) 13 tt
-
-cast-put-four-12 : tie.Need-cast-put-four-12
-cast-put-four-12 c = fits _ (c .before .before .before .before .before .before .before .before .before .before .before .before .before .before .before .before .before .before .before .before .before .before .before .before .pre .1) 14 tt
-
-cast-put-four-13 : tie.Need-cast-put-four-13
-cast-put-four-13 c = fits _ (c .before .before .before .before .before .before .before .before .before .before .before .before .before .before .before .before .before .before .before .before .before .before .before .before .before .pre .1) 15 tt
-
-put-four-requires-4 : tie.Need-put-four-requires-4
-put-four-requires-4 c κs =
-    let d = c .before .before .before .before .before .before in
-    let e = d .before .before .before .before .before in
-    let f = e .before .before .before .before .before .before .before in
-    omega (arith, d .put-four3 .kept .0, e .put-four2 .kept .0, f .put-four .kept .0, f .before .before .before .before .before .before .before .pre .0)
-
-same-length : tie.Need-same-length
-same-length c =
-    let d = c .before .before .before .before .before .before .before .before in
-    let e = d .before .before .before .before .before in
-    let f = e .before .before .before .before .before .before .before in
-    c .before .put-four4 .kept .0 ∙ d .put-four3 .kept .0 ∙ e .put-four2 .kept .0 ∙ f .put-four .kept .0
-
 returns : tie.Need-returns
 returns c =
-    let d = c .before .before .before .before .before .before .before .before in
-    let e = d .before .before .before .before .before in
-    let f = e .before .before .before .before .before .before .before in
-    let s = f .before .before .before .before .before .before .before in
-    let v = exact _ (s .pre .1) in
-    let longitude = back (s .args .b .longitude) (f .before .before .before .before .before .before .struct-told .given .1 .1 .1 .1 .1 .1 .1 .1 .1 .0 .1) in
-    let latitude = back (s .args .b .latitude) (f .before .before .before .before .before .struct-told2 .given .1 .1 .1 .1 .1 .1 .1 .1 .1 .1 .0 .1) in
-    let one = f .put-four .ensures ∙ (λ j. sets (s .args .out .now) 0 (pos 4 ∷ v 1 tt j ∷ v 2 tt j ∷ v 3 tt j ∷ [])) in
-    let two = e .put-four2 .ensures ∙ (λ j. sets (one j) 4 (v 4 tt j ∷ v 5 tt j ∷ v 6 tt j ∷ v 7 tt j ∷ [])) in
-    let three = d .put-four3 .ensures ∙ (λ j. sets (two j) 8 (v 8 tt j ∷ v 9 tt j ∷ longitude j ∷ latitude j ∷ [])) in
-    c .before .put-four4 .ensures ∙ (λ j. sets (three j) 12 (v 12 tt j ∷ v 13 tt j ∷ v 14 tt j ∷ v 15 tt j ∷ []))
+    let four = c .before .before .before .before in
+    let two = four .before .before .before .before .before .before in
+    let told = two .before .before .before .before .before in
+    let b = told .before .before .args .b in
+    let longitude = back (b .longitude) (told .before .struct-told .given .1 .1 .1 .1 .1 .1 .1 .1 .1 .0 .1) in
+    let latitude = back (b .latitude) (told .struct-told2 .given .1 .1 .1 .1 .1 .1 .1 .1 .1 .1 .0 .1) in
+    rw (c .before .put-plains3 .ensures, four .put-two .ensures, four .before .before .before .put-plain .ensures, two .put-plains2 .ensures, two .before .before .before .put-plains .ensures, longitude, latitude)
 
 pub put-base-spec : {M : Type 1} → statement M
-put-base-spec =
-    tie.close
-    (tie.spec
-    cast-put-four
-    cast-put-four-2
-    cast-put-four-3
-    put-four-requires
-    cast-put-four-4
-    cast-put-four-5
-    cast-put-four-6
-    cast-put-four-7
-    put-four-requires-2
-    cast-put-four-8
-    cast-put-four-9
-    put-four-requires-3
-    cast-put-four-10
-    cast-put-four-11
-    cast-put-four-12
-    cast-put-four-13
-    put-four-requires-4
-    same-length
-    returns)
+put-base-spec = tie.close (tie.spec (λ c κs. search needs) (λ c κs. search needs) (λ c κs. search needs) (λ c κs. search needs) (λ c κs. search needs) (search needs) returns)

@@ -7,9 +7,6 @@ use Rattle.message.proofs.reading.head_of.Tie as tie
 returns : tie.Need-returns
 returns c = read-length _ (c .if1 .taken)
 
-head-in-requires : tie.Need-head-in-requires
-head-in-requires c κs = search needs
-
 returns-2 : tie.Need-returns-2
 returns-2 c = let i = c .before .head-in .ensures .0 in read-low _ (c .before .before .if1 .left) (rw i at (c .if2 .taken))
 
@@ -23,4 +20,4 @@ returns-4 c =
     (c .before .before .before .if1 .left, between-yes 1 4 _ (rw i at (c .before .if2 .left)) (rw i at (c .if3 .left)), h)
 
 pub head-of-spec : {M : Type 1} → statement M
-head-of-spec = tie.close (tie.spec returns head-in-requires returns-2 returns-3 returns-4)
+head-of-spec = tie.close (tie.spec returns (search needs) returns-2 returns-3 returns-4)

@@ -5,15 +5,6 @@ use borrow.Author.Needs.{needs}
 use Rattle.message.proofs.reading.message_in.Statement.{statement}
 use Rattle.message.proofs.reading.message_in.Tie as tie
 
-state-in-requires : tie.Need-state-in-requires
-state-in-requires c κs = search needs
-
-enum-known-state : tie.Need-enum-known-state
-enum-known-state c = search needs
-
-enum-told : tie.Need-enum-told
-enum-told c = search needs
-
 organised-requires : tie.Need-organised-requires
 organised-requires c κs =
     let a = c .before .before .before .before in
@@ -36,9 +27,9 @@ pub message-in-spec : {M : Type 1} → statement M
 message-in-spec =
     tie.close
     (tie.spec
-    state-in-requires
-    enum-known-state
-    enum-told
+    (search needs)
+    (search needs)
+    (search needs)
     organised-requires
     returns
     report-in-requires

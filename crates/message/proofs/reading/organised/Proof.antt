@@ -8,9 +8,6 @@ use Rattle.message.proofs.reading.organised.Tie as tie
 organised-of-requires : tie.Need-organised-of-requires
 organised-of-requires c κs = (c .before .pre .0, c .before .pre .2)
 
-base-in-requires : tie.Need-base-in-requires
-base-in-requires c κs = search needs
-
 returns : tie.Need-returns
 returns c = ap₂ Four (c .base-in .ensures) (c .before .before .organised-of .ensures) ∙ message-four _ _ (c .before .if1 .taken)
 
@@ -28,7 +25,7 @@ organised-spec =
     tie.close
     (tie.spec
     organised-of-requires
-    base-in-requires
+    (search needs)
     returns
     report-in-requires
     returns-2

@@ -4,20 +4,11 @@ use Rattle.message.proofs.Complement.{full-some, low-fits, low-is, high
 use Rattle.message.proofs.signs.signed.Statement.{statement}
 use Rattle.message.proofs.signs.signed.Tie as tie
 
-sub-half : tie.Need-sub-half
-sub-half c = search needs
-
-shl-half : tie.Need-shl-half
-shl-half c = search needs
-
 cast-result : tie.Need-cast-result
 cast-result c = low-fits _ _ (c .before .pre)
 
 returns : tie.Need-returns
 returns c = low-is _ _ (c .before .pre) (c .if1 .taken)
-
-shl-below : tie.Need-shl-below
-shl-below c = search needs
 
 sub-below : tie.Need-sub-below
 sub-below c = full-some _ (c .before .pre .1)
@@ -38,11 +29,11 @@ pub signed-spec : {M : Type 1} → statement M
 signed-spec =
     tie.close
     (tie.spec
-    sub-half
-    shl-half
+    (search needs)
+    (search needs)
     cast-result
     returns
-    shl-below
+    (search needs)
     sub-below
     sub-below-2
     cast-result-2

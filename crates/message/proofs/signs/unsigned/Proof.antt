@@ -6,15 +6,6 @@ use Rattle.message.proofs.Complement.{full-some, neg-result, neg-fits, 
 use Rattle.message.proofs.signs.unsigned.Statement.{statement}
 use Rattle.message.proofs.signs.unsigned.Tie as tie
 
-sub-half : tie.Need-sub-half
-sub-half c = search needs
-
-shl-half : tie.Need-shl-half
-shl-half c = search needs
-
-shl-full : tie.Need-shl-full
-shl-full c = search needs
-
 sub-below : tie.Need-sub-below
 sub-below c = neg-result _ (c .before .fits .x) (c .if1 .taken)
 
@@ -46,9 +37,9 @@ pub unsigned-spec : {M : Type 1} → statement M
 unsigned-spec =
     tie.close
     (tie.spec
-    sub-half
-    shl-half
-    shl-full
+    (search needs)
+    (search needs)
+    (search needs)
     sub-below
     cast-below
     sub-result

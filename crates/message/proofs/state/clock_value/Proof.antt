@@ -12,18 +12,6 @@ returns-2 c = clock-minute _ (c .if2 .taken)
 returns-3 : tie.Need-returns-3
 returns-3 c = clock-unused _ (c .if3 .taken)
 
-mul-result : tie.Need-mul-result
-mul-result c = search needs
-
-mul-result-2 : tie.Need-mul-result-2
-mul-result-2 c = search needs
-
-add-result : tie.Need-add-result
-add-result c = search needs
-
-add-result-2 : tie.Need-add-result-2
-add-result-2 c = search needs
-
 returns-4 : tie.Need-returns-4
 returns-4 c = let d = c .before .before .before in clock-fits _ (d .before .before .before .before .if1 .left) (d .before .before .if2 .left) (d .if3 .left)
 
@@ -34,8 +22,8 @@ clock-value-spec =
     returns
     returns-2
     returns-3
-    mul-result
-    mul-result-2
-    add-result
-    add-result-2
+    (search needs)
+    (search needs)
+    (search needs)
+    (search needs)
     returns-4)

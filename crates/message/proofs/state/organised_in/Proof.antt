@@ -5,9 +5,6 @@ use borrow.Author.Needs.{needs}
 use Rattle.message.proofs.state.organised_in.Statement.{statement}
 use Rattle.message.proofs.state.organised_in.Tie as tie
 
-take-four-requires : tie.Need-take-four-requires
-take-four-requires c κs = search needs
-
 sub-in-requires : tie.Need-sub-in-requires
 sub-in-requires c κs = let e = c .take-four .ensures in (c .before .before .pre, narrow _ _ _ _ (e .2), e .3)
 
@@ -16,4 +13,4 @@ unfolding organisedOf
 returns c = let e = c .before .take-four .ensures in λ j. record { sync = e .1 j; sub = (c .sub-in .ensures ∙ ap (subOf _) (e .2)) j }
 
 pub organised-in-spec : {M : Type 1} → statement M
-organised-in-spec = tie.close (tie.spec take-four-requires sub-in-requires returns)
+organised-in-spec = tie.close (tie.spec (search needs) sub-in-requires returns)

@@ -5,18 +5,12 @@ use borrow.Author.Needs.{needs}
 use Rattle.message.proofs.state.state_in.Statement.{statement}
 use Rattle.message.proofs.state.state_in.Tie as tie
 
-incremental-in-requires : tie.Need-incremental-in-requires
-incremental-in-requires c κs = search needs
-
 returns : tie.Need-returns
 returns c = ap Increasing (c .incremental-in .ensures) ∙ state-increasing _ _ (c .before .if1 .taken)
-
-organised-in-requires : tie.Need-organised-in-requires
-organised-in-requires c κs = search needs
 
 returns-2 : tie.Need-returns-2
 returns-2 c = ap Organised (c .organised-in .ensures) ∙ state-organised _ _ (c .before .if1 .left)
 
 pub state-in-spec : {M : Type 1} → statement M
 state-in-spec =
-    tie.close (tie.spec incremental-in-requires returns organised-in-requires returns-2)
+    tie.close (tie.spec (search needs) returns (search needs) returns-2)

@@ -7,27 +7,12 @@ use Rattle.message.proofs.state.sub_in.Tie as tie
 returns : tie.Need-returns
 returns c = sub-offset _ _ _ (c .before .before .pre .2) (c .if1 .taken)
 
-take-four-requires : tie.Need-take-four-requires
-take-four-requires c κs = search needs
-
 returns-2 : tie.Need-returns-2
 unfolding clockOf
 returns-2 c = let e = c .take-four .ensures in sub-time _ _ _ (c .before .before .before .before .pre .2) (c .before .before .if1 .left) _ (c .before .if2 .taken) (λ j. record { hour = e .1 j; minute = e .2 j; unused = e .3 j })
 
-sub-t8 : tie.Need-sub-t8
-sub-t8 c = search needs
-
-cast-t10 : tie.Need-cast-t10
-cast-t10 c = search needs
-
 returns-3 : tie.Need-returns-3
 returns-3 c = sub-slot _ _ _ (c .before .before .before .before .pre .2) (c .before .before .if1 .left) (c .before .if2 .left) (c .if3 .taken)
-
-sub-t7 : tie.Need-sub-t7
-sub-t7 c = search needs
-
-cast-t13 : tie.Need-cast-t13
-cast-t13 c = search needs
 
 returns-4 : tie.Need-returns-4
 returns-4 c = sub-stations _ _ _ (c .before .before .before .before .pre .2) (c .before .before .if1 .left) (c .before .if2 .left) (c .if3 .left)
@@ -37,11 +22,11 @@ sub-in-spec =
     tie.close
     (tie.spec
     returns
-    take-four-requires
+    (search needs)
     returns-2
-    sub-t8
-    cast-t10
+    (search needs)
+    (search needs)
     returns-3
-    sub-t7
-    cast-t13
+    (search needs)
+    (search needs)
     returns-4)

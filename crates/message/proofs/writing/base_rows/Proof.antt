@@ -4,12 +4,6 @@ use borrow.Author.Needs.{needs}
 use Rattle.message.proofs.writing.base_rows.Statement.{statement}
 use Rattle.message.proofs.writing.base_rows.Tie as tie
 
-unsigned-requires : tie.Need-unsigned-requires
-unsigned-requires c κs = search needs
-
-unsigned-requires-2 : tie.Need-unsigned-requires-2
-unsigned-requires-2 c κs = search needs
-
 returns : tie.Need-returns
 returns c =
     let b = c .before .before .before .before .args .b in
@@ -26,4 +20,4 @@ returns c =
     }
 
 pub base-rows-spec : {M : Type 1} → statement M
-base-rows-spec = tie.close (tie.spec unsigned-requires unsigned-requires-2 returns)
+base-rows-spec = tie.close (tie.spec (search needs) (search needs) returns)

@@ -1,21 +1,15 @@
-use mathlib.Core.Path.{sym, ap, _∙_}
-use Rattle.bits.specs.Row.{allFit}
-use Rattle.message.proofs.Writings.{head-base, head-report}
+use Rattle.message.specs.Sheet.{headFields}
 use borrow.Author.Needs.{needs}
 use Rattle.message.proofs.writing.head_fits.Statement.{statement}
 use Rattle.message.proofs.writing.head_fits.Tie as tie
 
-base-fits-requires : tie.Need-base-fits-requires
-base-fits-requires c κs = search needs
-
 returns : tie.Need-returns
-returns c = c .base-fits .ensures ∙ ap allFit (sym (head-base _ (c .before .if1 .taken)))
-
-report-fits-requires : tie.Need-report-fits-requires
-report-fits-requires c κs = search needs
+unfolding headFields
+returns c = rw (c .before .if1 .taken) (c .base-fits .ensures)
 
 returns-2 : tie.Need-returns-2
-returns-2 c = c .report-fits .ensures ∙ ap allFit (sym (head-report _ (c .before .if1 .left)))
+unfolding headFields
+returns-2 c = rw (c .before .if1 .left) (c .report-fits .ensures)
 
 pub head-fits-spec : {M : Type 1} → statement M
-head-fits-spec = tie.close (tie.spec base-fits-requires returns report-fits-requires returns-2)
+head-fits-spec = tie.close (tie.spec (search needs) returns (search needs) returns-2)

@@ -16,13 +16,10 @@ put-state-requires c κs =
     let a = c .before .before .before .before .before .before in
     (omega (arith, a .pre .0, ap length (c .before .before .before .put-head .ensures) ∙ length-lay _ _ _), fit-both (headFields (a .args .x)) (stateFields (a .args .x)) (a .pre .1) .1)
 
-same-length : tie.Need-same-length
-same-length c = search needs
-
 returns : tie.Need-returns
 returns c =
     let a = c .before .before .before .before .before .before .before .before .before in
     whole _ _ (λ i. c .before .before .before .before .before .before .before .before .slice-known .given i .fits) (a .pre .0) (c .before .before .before .before .before .before .put-head .ensures) (c .before .before .put-state .ensures)
 
 pub put-spec : {M : Type 1} → statement M
-put-spec = tie.close (tie.spec put-head-requires put-state-requires same-length returns)
+put-spec = tie.close (tie.spec put-head-requires put-state-requires (search needs) returns)

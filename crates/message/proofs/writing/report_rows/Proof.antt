@@ -4,15 +4,6 @@ use borrow.Author.Needs.{needs}
 use Rattle.message.proofs.writing.report_rows.Statement.{statement}
 use Rattle.message.proofs.writing.report_rows.Tie as tie
 
-unsigned-requires : tie.Need-unsigned-requires
-unsigned-requires c κs = search needs
-
-unsigned-requires-2 : tie.Need-unsigned-requires-2
-unsigned-requires-2 c κs = search needs
-
-unsigned-requires-3 : tie.Need-unsigned-requires-3
-unsigned-requires-3 c κs = search needs
-
 returns : tie.Need-returns
 returns c =
     let r = c .before .before .before .before .before .before .args .r in
@@ -31,4 +22,4 @@ returns c =
 
 pub report-rows-spec : {M : Type 1} → statement M
 report-rows-spec =
-    tie.close (tie.spec unsigned-requires unsigned-requires-2 unsigned-requires-3 returns)
+    tie.close (tie.spec (search needs) (search needs) (search needs) returns)

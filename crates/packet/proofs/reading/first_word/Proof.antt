@@ -4,17 +4,8 @@ use borrow.Author.Needs.{needs}
 use Rattle.packet.proofs.reading.first_word.Statement.{statement}
 use Rattle.packet.proofs.reading.first_word.Tie as tie
 
-word-at-requires : tie.Need-word-at-requires
-word-at-requires c κs = search needs
-
-sub-result : tie.Need-sub-result
-sub-result c = search needs
-
-shl-result : tie.Need-shl-result
-shl-result c = search needs
-
 returns : tie.Need-returns
 returns c = (first-is _ 8 (c .before .before .pre .0) (omega (arith, c .before .before .pre .2)) (c .word-at .ensures) _ (c .before .before .pre .1), omega arith)
 
 pub first-word-spec : {M : Type 1} → statement M
-first-word-spec = tie.close (tie.spec word-at-requires sub-result shl-result returns)
+first-word-spec = tie.close (tie.spec (λ c κs. search needs) (λ c. search needs) (λ c. search needs) returns)

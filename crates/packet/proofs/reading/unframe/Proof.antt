@@ -4,30 +4,12 @@ use native.Mathlib.Omega.{arith}
 use borrow.Author.Tests.{eq-eqb, ne-eqb}
 use lib.ListN.{length, getD}
 use Rattle.packet.specs.Packet.{readOut}
-use Rattle.packet.specs.declared.Received.the-variants.{Bytes}
+use Rattle.packet.specs.declared.Unpacked.the-variants.{Bytes}
 use Rattle.packet.proofs.Answers.{check-good, check-bad}
 use Rattle.packet.proofs.Telling.{payload-bytes, payload-count, frame-whole, frame-checked, front-zeros, copied}
 use borrow.Author.Needs.{needs}
 use Rattle.packet.proofs.reading.unframe.Statement.{statement}
 use Rattle.packet.proofs.reading.unframe.Tie as tie
-
-sub-n : tie.Need-sub-n
-sub-n c = search needs
-
-add-end : tie.Need-add-end
-add-end c = search needs
-
-shared-slice-read-told : tie.Need-shared-slice-read-told
-shared-slice-read-told c = search needs
-
-add-told : tie.Need-add-told
-add-told c = search needs
-
-shared-slice-read-told-2 : tie.Need-shared-slice-read-told-2
-shared-slice-read-told-2 c = search needs
-
-told-requires : tie.Need-told-requires
-told-requires c κs = search needs
 
 register-after-requires : tie.Need-register-after-requires
 register-after-requires c κs =
@@ -35,24 +17,6 @@ register-after-requires c κs =
     let raw = s .args .raw .now in
     let long : length raw ≡ length raw - 6 + 6 = omega (arith, s .pre .1) in
     (front-zeros raw (length raw - 6) long (λ i. c .before .shared-slice-known3 .given i .fits) (s .pre .0), omega (arith, s .pre .2), omega (arith, s .pre .1))
-
-sub-if1 : tie.Need-sub-if1
-sub-if1 c = search needs
-
-sub-copy : tie.Need-sub-copy
-sub-copy c = search needs
-
-part-copy-start : tie.Need-part-copy-start
-part-copy-start c = search needs
-
-part-copy-end : tie.Need-part-copy-end
-part-copy-end c = search needs
-
-copy-requires : tie.Need-copy-requires
-copy-requires c κs = search needs
-
-same-length : tie.Need-same-length
-same-length c = search needs
 
 returns : tie.Need-returns
 unfolding readOut
@@ -84,18 +48,18 @@ pub unframe-spec : {M : Type 1} → statement M
 unframe-spec =
     tie.close
     (tie.spec
-    sub-n
-    add-end
-    shared-slice-read-told
-    add-told
-    shared-slice-read-told-2
-    told-requires
+    (λ c. search needs)
+    (λ c. search needs)
+    (λ c. search needs)
+    (λ c. search needs)
+    (λ c. search needs)
+    (λ c κs. search needs)
     register-after-requires
-    sub-if1
-    sub-copy
-    part-copy-start
-    part-copy-end
-    copy-requires
-    same-length
+    (λ c. search needs)
+    (λ c. search needs)
+    (λ c. search needs)
+    (λ c. search needs)
+    (λ c κs. search needs)
+    (λ c. search needs)
     returns
     returns-2)

@@ -7,12 +7,6 @@ use borrow.Author.Needs.{needs}
 use Rattle.packet.proofs.reading.unpack.Statement.{statement}
 use Rattle.packet.proofs.reading.unpack.Tie as tie
 
-slice-aggregate-unstuff : tie.Need-slice-aggregate-unstuff
-slice-aggregate-unstuff c = search needs
-
-unstuff-requires : tie.Need-unstuff-requires
-unstuff-requires c κs = search needs
-
 returns : tie.Need-returns
 unfolding readOut
 returns c = (spoilt-bad (c .before .before .unstuff .ensures) (c .if1 .taken), refl)
@@ -25,9 +19,6 @@ returns-3 : tie.Need-returns-3
 unfolding readOut
 returns-3 c = (over-bad (c .before .before .before .before .before .before .unstuff .ensures) (c .before .before .before .before .if1 .left) (c .before .before .if2 .left) (c .if3 .taken), refl)
 
-add-n : tie.Need-add-n
-add-n c = search needs
-
 returns-4 : tie.Need-returns-4
 unfolding readOut
 returns-4 c = (few-bad (c .before .before .before .before .before .before .before .before .unstuff .ensures) (c .before .before .before .before .before .before .if1 .left) (c .before .before .before .before .if2 .left) (c .before .before .if3 .left) (c .if4 .taken), refl)
@@ -35,15 +26,6 @@ returns-4 c = (few-bad (c .before .before .before .before .before .before .befor
 returns-5 : tie.Need-returns-5
 unfolding readOut
 returns-5 c = (many-bad (c .before .before .before .before .before .before .before .before .before .unstuff .ensures) (c .before .before .before .before .before .before .before .if1 .left) (c .before .before .before .before .before .if2 .left) (c .before .before .before .if3 .left) (c .if5 .taken), refl)
-
-slice-aggregate-store-eight : tie.Need-slice-aggregate-store-eight
-slice-aggregate-store-eight c = search needs
-
-store-eight-requires : tie.Need-store-eight-requires
-store-eight-requires c κs = search needs
-
-array-share-prefix-raw : tie.Need-array-share-prefix-raw
-array-share-prefix-raw c = search needs
 
 slice-aggregate-unframe : tie.Need-slice-aggregate-unframe
 slice-aggregate-unframe c = sym (frame-long (c .before .before .before .before .before .before .before .before .before .before .before .before .before .unstuff .ensures) (c .before .before .before .before .before .before .before .before .before .before .before .if1 .left) (c .before .before .before .before .before .before .before .before .before .if2 .left) (c .before .before .before .before .before .before .before .if3 .left) (c .before .before .before .before .before .before .before .before .before .before .before .before .before .unstuff .kept .1 .0) refl (c .before .before .before .before .before .if4 .left) (c .before .before .store-eight .ensures))
@@ -57,9 +39,6 @@ unframe-requires c κs =
       c .before .before .before .before .before .before .before .before .before .before .before .before .before .before .before .before .before .before .pre .3,
     )
 
-same-length : tie.Need-same-length
-same-length c = search needs
-
 returns-6 : tie.Need-returns-6
 returns-6 c =
     let f = c .before .before .unframe .ensures in
@@ -70,18 +49,18 @@ pub unpack-spec : {M : Type 1} → statement M
 unpack-spec =
     tie.close
     (tie.spec
-    slice-aggregate-unstuff
-    unstuff-requires
+    (λ c. search needs)
+    (λ c κs. search needs)
     returns
     returns-2
     returns-3
-    add-n
+    (λ c. search needs)
     returns-4
     returns-5
-    slice-aggregate-store-eight
-    store-eight-requires
-    array-share-prefix-raw
+    (λ c. search needs)
+    (λ c κs. search needs)
+    (λ c. search needs)
     slice-aggregate-unframe
     unframe-requires
-    same-length
+    (λ c. search needs)
     returns-6)

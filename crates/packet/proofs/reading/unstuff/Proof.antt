@@ -9,29 +9,8 @@ use borrow.Author.Needs.{needs}
 use Rattle.packet.proofs.reading.unstuff.Statement.{statement}
 use Rattle.packet.proofs.reading.unstuff.Tie as tie
 
-sub-over : tie.Need-sub-over
-sub-over c = search needs
-
-first-word-requires : tie.Need-first-word-requires
-first-word-requires c κs = search needs
-
 take-word-requires : tie.Need-take-word-requires
 take-word-requires c κs = (c .before .first-word .ensures .1, sound-first refl refl (omega arith) refl, omega (arith, c .before .before .before .before .pre .3))
-
-add-from : tie.Need-add-from
-add-from c = search needs
-
-sub-e : tie.Need-sub-e
-sub-e c = search needs
-
-sub-take-all : tie.Need-sub-take-all
-sub-take-all c = search needs
-
-part-take-all-start : tie.Need-part-take-all-start
-part-take-all-start c = search needs
-
-part-take-all-end : tie.Need-part-take-all-end
-part-take-all-end c = search needs
 
 take-all-requires : tie.Need-take-all-requires
 take-all-requires c κs =
@@ -47,9 +26,6 @@ take-all-requires c κs =
       omega (arith, long, t .ensures .more, length-lowFirst 32 (c .before .before .before .before .before .before .first-word .result), t .kept .1 .0, s .pre .1, s .pre .2, s .pre .3),
     )
 
-same-length : tie.Need-same-length
-same-length c = search needs
-
 returns : tie.Need-returns
 returns c =
     let s = c .before .before .before .before .before .before .before .before .before .before .before .before in
@@ -63,14 +39,14 @@ pub unstuff-spec : {M : Type 1} → statement M
 unstuff-spec =
     tie.close
     (tie.spec
-    sub-over
-    first-word-requires
+    (λ c. search needs)
+    (λ c κs. search needs)
     take-word-requires
-    add-from
-    sub-e
-    sub-take-all
-    part-take-all-start
-    part-take-all-end
+    (λ c. search needs)
+    (λ c. search needs)
+    (λ c. search needs)
+    (λ c. search needs)
+    (λ c. search needs)
     take-all-requires
-    same-length
+    (λ c. search needs)
     returns)

@@ -16,12 +16,6 @@ use Rattle.packet.proofs.writing.put_flag.Reads as put-flag-reads
 use Rattle.packet.proofs.writing.send_few.Reads as send-few-reads
 use Rattle.packet.proofs.writing.send_fours.Reads as send-fours-reads
 
-turns-requires : tie.Need-turns-requires
-turns-requires c κs = search needs
-
-put-flag-requires : tie.Need-put-flag-requires
-put-flag-requires c κs = search needs
-
 slice-aggregate-send-few : tie.Need-slice-aggregate-send-few
 slice-aggregate-send-few c = simp length-take (omega arith)
 
@@ -33,15 +27,6 @@ send-few-requires c κs =
     let a = sent-none (s .args .out .now) (c .before .before .before .before .before .put-flag .ensures) in
     (c .before .before .before .before .before .before .before .turns .ensures, simp length-take (omega arith), omega arith, few-room p (s .pre .0) (s .pre .1) n a)
 
-sub-send-fours : tie.Need-sub-send-fours
-sub-send-fours c = search needs
-
-part-send-fours-start : tie.Need-part-send-fours-start
-part-send-fours-start c = search needs
-
-part-send-fours-end : tie.Need-part-send-fours-end
-part-send-fours-end c = search needs
-
 send-fours-requires : tie.Need-send-fours-requires
 send-fours-requires c κs =
     let s = c .before .before .before .before .before .before .before .before .before .before .before .before .before .before .before .before in
@@ -50,12 +35,6 @@ send-fours-requires c κs =
     let e₁ = c .before .before .before .before .before .send-few in
     let a₁ = sent-first (s .args .out .now) (c .before .before .before .before .before .before .before .before .before .before .before .put-flag .ensures) (e₁ .ensures .0) (e₁ .kept .1 .1 .0) in
     (c .before .before .before .before .before .before .before .before .before .before .before .before .before .turns .ensures, simp (length-take, length-drop) (omega arith), e₁ .ensures .0 .four, fours-room p (s .pre .0) (s .pre .1) n a₁)
-
-sub-check : tie.Need-sub-check
-sub-check c = search needs
-
-cast-send-two : tie.Need-cast-send-two
-cast-send-two c = search needs
 
 send-two-requires : tie.Need-send-two-requires
 send-two-requires c κs =
@@ -112,16 +91,16 @@ pub build-spec : {M : Type 1} → statement M
 build-spec =
     tie.close
     (tie.spec
-    turns-requires
-    put-flag-requires
+    (λ c κs. search needs)
+    (λ c κs. search needs)
     slice-aggregate-send-few
     send-few-requires
-    sub-send-fours
-    part-send-fours-start
-    part-send-fours-end
+    (λ c. search needs)
+    (λ c. search needs)
+    (λ c. search needs)
     send-fours-requires
-    sub-check
-    cast-send-two
+    (λ c. search needs)
+    (λ c. search needs)
     send-two-requires
     put-flag-requires-2
     add-result

@@ -5,14 +5,8 @@ use borrow.Author.Needs.{needs}
 use Rattle.packet.proofs.writing.put_flag.Statement.{statement}
 use Rattle.packet.proofs.writing.put_flag.Tie as tie
 
-store-eight-requires : tie.Need-store-eight-requires
-store-eight-requires c κs = search needs
-
-same-length : tie.Need-same-length
-same-length c = search needs
-
 returns : tie.Need-returns
 returns c = c .before .before .store-eight .ensures ∙ ap (sets (c .before .before .before .before .before .args .out .now) (c .before .before .before .before .before .args .at)) flag-bits
 
 pub put-flag-spec : {M : Type 1} → statement M
-put-flag-spec = tie.close (tie.spec store-eight-requires same-length returns)
+put-flag-spec = tie.close (tie.spec (λ c κs. search needs) (λ c. search needs) returns)

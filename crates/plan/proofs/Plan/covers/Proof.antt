@@ -6,17 +6,8 @@ use Rattle.plan.proofs.Plan.covers.Tie as tie
 use Rattle.plan.specs.Plan.{slots, first, since}
 use Rattle.plan.proofs.Gaps.{first-below}
 
-add-result : tie.Need-add-result
-add-result c = search needs
-
-first-requires : tie.Need-first-requires
-first-requires c κs = search needs
-
 sub-result : tie.Need-sub-result
 sub-result c = let a = c .before .args in omega (arith, c .first .ensures, first-below (a .self) (a .k))
-
-slots-requires : tie.Need-slots-requires
-slots-requires c κs = search needs
 
 returns : tie.Need-returns
 returns c =
@@ -27,4 +18,4 @@ returns c =
     ((λ t. record { known = c .before .before .pre .1; near = ltb→lt n m t }), (λ w. lt→ltb n m (w .near)))
 
 pub covers-spec : {M : Type 1} → statement M
-covers-spec = tie.close (tie.spec add-result first-requires sub-result slots-requires returns)
+covers-spec = tie.close (tie.spec (λ c. search needs) (λ c κs. search needs) sub-result (λ c κs. search needs) returns)

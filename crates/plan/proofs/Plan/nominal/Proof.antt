@@ -6,12 +6,6 @@ use Rattle.plan.proofs.Plan.nominal.Tie as tie
 use Rattle.plan.specs.Plan.{nominal, along}
 use Rattle.plan.proofs.Gaps.{along-most}
 
-mul-result : tie.Need-mul-result
-mul-result c = search needs
-
-div-result : tie.Need-div-result
-div-result c = search needs
-
 add-result : tie.Need-add-result
 unfolding along
 add-result c = let a = c .before .before .args in omega (arith, along-most (a .self) (c .before .before .pre .0) (a .k) (c .before .before .pre .1))
@@ -21,4 +15,4 @@ unfolding nominal along
 returns c = refl
 
 pub nominal-spec : {M : Type 1} → statement M
-nominal-spec = tie.close (tie.spec mul-result div-result add-result returns)
+nominal-spec = tie.close (tie.spec (λ c. search needs) (λ c. search needs) add-result returns)

@@ -5,9 +5,6 @@ use Rattle.plan.proofs.Plan.slots.Tie as tie
 use Rattle.plan.specs.Plan.{slots}
 use Rattle.plan.proofs.Gaps.{half-most}
 
-half-requires : tie.Need-half-requires
-half-requires c κs = search needs
-
 mul-result : tie.Need-mul-result
 mul-result c = omega (arith, c .half .ensures, half-most (c .before .args .self))
 
@@ -19,4 +16,4 @@ unfolding slots
 returns c = rw (c .half .ensures)
 
 pub slots-spec : {M : Type 1} → statement M
-slots-spec = tie.close (tie.spec half-requires mul-result add-result returns)
+slots-spec = tie.close (tie.spec (λ c κs. search needs) mul-result add-result returns)

@@ -16,17 +16,8 @@ abbrev μ-loop : tie.MeasureT-loop
 loop-holds : tie.Need-loop-holds Inv-loop μ-loop
 loop-holds c = (search needs, (λ j l w. omega arith))
 
-covers-requires : tie.Need-covers-requires Inv-loop μ-loop
-covers-requires c κs = search needs
-
 returns : tie.Need-returns Inv-loop μ-loop
 returns c = c .before .covers .ensures .0 (rw (c .if2 .taken) tt)
-
-add-k : tie.Need-add-k Inv-loop μ-loop
-add-k c = search needs
-
-loop-less : tie.Need-loop-less Inv-loop μ-loop
-loop-less c = search needs
 
 loop-again : tie.Need-loop-again Inv-loop μ-loop
 loop-again c = (search needs, none-more _ _ _ _ (c .before .covers .ensures) (c .if2 .left) (c .before .before .before .before .loop .inv .1))
@@ -35,4 +26,4 @@ returns-2 : tie.Need-returns-2 Inv-loop μ-loop
 returns-2 c = λ j w. c .before .before .loop .inv .1 j (omega (arith, w .known)) w
 
 pub window-of-spec : {M : Type 1} → statement M
-window-of-spec = tie.close (tie.spec Inv-loop μ-loop loop-holds covers-requires returns add-k loop-less loop-again returns-2)
+window-of-spec = tie.close (tie.spec Inv-loop μ-loop loop-holds (λ c κs. search needs) returns (λ c. search needs) (λ c. search needs) loop-again returns-2)

@@ -16,23 +16,8 @@ abbrev μ-loop : tie.MeasureT-loop
 loop-holds : tie.Need-loop-holds Inv-loop μ-loop
 loop-holds c = (search needs, own-start _ _ _ _)
 
-add-own-at : tie.Need-add-own-at Inv-loop μ-loop
-add-own-at c = search needs
-
-own-at-requires : tie.Need-own-at-requires Inv-loop μ-loop
-own-at-requires c κs = search needs
-
-add-result : tie.Need-add-result Inv-loop μ-loop
-add-result c = search needs
-
 returns : tie.Need-returns Inv-loop μ-loop
 returns c = sym (own-here _ _ _ _ _ (c .before .before .loop-test .taken) (sym (c .before .own-at .ensures) ∙ c .if1 .taken)) ∙ c .before .before .before .loop .inv .1
-
-add-i : tie.Need-add-i Inv-loop μ-loop
-add-i c = search needs
-
-loop-less : tie.Need-loop-less Inv-loop μ-loop
-loop-less c = search needs
 
 loop-again : tie.Need-loop-again Inv-loop μ-loop
 loop-again c = (search needs, sym (own-later _ _ _ _ _ (c .before .before .loop-test .taken) (sym (c .before .own-at .ensures) ∙ c .if1 .left)) ∙ c .before .before .before .loop .inv .1)
@@ -47,11 +32,11 @@ first-own-spec =
     Inv-loop
     μ-loop
     loop-holds
-    add-own-at
-    own-at-requires
-    add-result
+    (λ c. search needs)
+    (λ c κs. search needs)
+    (λ c. search needs)
     returns
-    add-i
-    loop-less
+    (λ c. search needs)
+    (λ c. search needs)
     loop-again
     returns-2)

@@ -2,6 +2,7 @@ use mathlib.Core.Path.{_≡_, sym, ap, _∙_}
 use Prim.Native.Nat.{_-_, _≤_}
 use native.Mathlib.Omega.{arith}
 use Rattle.laws.proofs.Tests.{was-false, was-true}
+use Rattle.limits.specs.Limits.{mostTimeOut}
 use Rattle.reporting.specs.Report.{timeOut}
 use Rattle.reporting.proofs.Looking.{framesFrom, frames-start, frames-end, frame-own, frame-other}
 use borrow.Author.Needs.{needs}
@@ -10,33 +11,18 @@ use Rattle.reporting.proofs.look.frames_own.Tie as tie
 
 -- what is left still gives the whole
 abbrev Inv-loop : tie.InvT-loop
-Inv-loop book present i₀ i = (i ≤ 7) × (framesFrom book present i ≡ timeOut book present)
+Inv-loop book present i₀ i = (i ≤ mostTimeOut) × (framesFrom book present i ≡ timeOut book present)
 
 abbrev μ-loop : tie.MeasureT-loop
-μ-loop book present i₀ i = 7 - i
+μ-loop book present i₀ i = mostTimeOut - i
 
 loop-holds : tie.Need-loop-holds Inv-loop μ-loop
 loop-holds c = (search needs, frames-start _ _)
-
-add-own-at : tie.Need-add-own-at Inv-loop μ-loop
-add-own-at c = search needs
-
-mul-own-at : tie.Need-mul-own-at Inv-loop μ-loop
-mul-own-at c = search needs
-
-own-at-requires : tie.Need-own-at-requires Inv-loop μ-loop
-own-at-requires c κs = search needs
 
 returns : tie.Need-returns Inv-loop μ-loop
 returns c =
     let l = c .before .before .before .loop in
     sym (frame-other _ _ (l .i) (omega (arith, c .before .before .loop-test .taken)) (sym (c .before .own-at .ensures) ∙ was-false (c .if1 .taken))) ∙ l .inv .1
-
-add-i : tie.Need-add-i Inv-loop μ-loop
-add-i c = search needs
-
-loop-less : tie.Need-loop-less Inv-loop μ-loop
-loop-less c = search needs
 
 loop-again : tie.Need-loop-again Inv-loop μ-loop
 loop-again c =
@@ -47,7 +33,7 @@ returns-2 : tie.Need-returns-2 Inv-loop μ-loop
 returns-2 c =
     let l = c .before .loop in
     let a = c .before .before .before .args in
-    let e : l .i ≡ 7 = omega arith in
+    let e : l .i ≡ mostTimeOut = omega arith in
     e ∙ sym (ap (framesFrom (a .book .now) (a .present)) e ∙ frames-end _ _) ∙ l .inv .1
 
 pub frames-own-spec : {M : Type 1} → statement M
@@ -57,11 +43,11 @@ frames-own-spec =
     Inv-loop
     μ-loop
     loop-holds
-    add-own-at
-    mul-own-at
-    own-at-requires
+    (λ c. search needs)
+    (λ c. search needs)
+    (λ c κs. search needs)
     returns
-    add-i
-    loop-less
+    (λ c. search needs)
+    (λ c. search needs)
     loop-again
     returns-2)

@@ -6,38 +6,11 @@ use borrow.Author.Needs.{needs}
 use Rattle.reporting.proofs.look.next_own.Statement.{statement}
 use Rattle.reporting.proofs.look.next_own.Tie as tie
 
-cast-slot : tie.Need-cast-slot
-cast-slot c = search needs
-
-window-of-requires : tie.Need-window-of-requires
-window-of-requires c κs = search needs
-
-enum-told : tie.Need-enum-told
-enum-told c = search needs
-
-enum-known-k : tie.Need-enum-known-k
-enum-known-k c = search needs
-
-add-since : tie.Need-add-since
-add-since c = search needs
-
 first-requires : tie.Need-first-requires
 first-requires c κs = (search needs, told-in _ _ _ _ (c .before .k .given .1) (c .before .before .before .window-of .ensures) .known)
 
 sub-since : tie.Need-sub-since
 sub-since c = omega (arith, c .first .ensures, first-below (c .before .before .before .before .before .before .args .p) (c .before .before .k .given .0 .0))
-
-cast-first-own : tie.Need-cast-first-own
-cast-first-own c = search needs
-
-sub-first-own : tie.Need-sub-first-own
-sub-first-own c = search needs
-
-slots-requires : tie.Need-slots-requires
-slots-requires c κs = search needs
-
-cast-first-own-2 : tie.Need-cast-first-own-2
-cast-first-own-2 c = search needs
 
 first-own-requires : tie.Need-first-own-requires
 first-own-requires c κs = (search needs, omega (arith, c .slots .ensures, slots-most (c .before .before .before .before .before .before .before .args .p)))
@@ -54,17 +27,17 @@ pub next-own-spec : {M : Type 1} → statement M
 next-own-spec =
     tie.close
     (tie.spec
-    cast-slot
-    window-of-requires
-    enum-told
-    enum-known-k
-    add-since
+    (λ c. search needs)
+    (λ c κs. search needs)
+    (λ c. search needs)
+    (λ c. search needs)
+    (λ c. search needs)
     first-requires
     sub-since
-    cast-first-own
-    sub-first-own
-    slots-requires
-    cast-first-own-2
+    (λ c. search needs)
+    (λ c. search needs)
+    (λ c κs. search needs)
+    (λ c. search needs)
     first-own-requires
     returns
     returns-2)

@@ -8,18 +8,9 @@ use borrow.Author.Needs.{needs}
 use Rattle.reporting.proofs.look.own_at.Statement.{statement}
 use Rattle.reporting.proofs.look.own_at.Tie as tie
 
-place-requires : tie.Need-place-requires
-place-requires c κs = search needs
-
-mul-result : tie.Need-mul-result
-mul-result c = search needs
-
-shared-slice-read-result : tie.Need-shared-slice-read-result
-shared-slice-read-result c = search needs
-
 returns : tie.Need-returns
 unfolding ownAt
 returns c = ap (λ (at : ℕ). eqb (getD (c .before .before .before .args .book .now) at 0) ours) (c .before .place .ensures)
 
 pub own-at-spec : {M : Type 1} → statement M
-own-at-spec = tie.close (tie.spec place-requires mul-result shared-slice-read-result returns)
+own-at-spec = tie.close (tie.spec (λ c κs. search needs) (λ c. search needs) (λ c. search needs) returns)

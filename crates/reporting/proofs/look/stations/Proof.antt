@@ -18,23 +18,8 @@ abbrev μ-loop : tie.MeasureT-loop
 loop-holds : tie.Need-loop-holds Inv-loop μ-loop
 loop-holds c = (search needs, fold-none _ _ _)
 
-mul-heard-bit : tie.Need-mul-heard-bit Inv-loop μ-loop
-mul-heard-bit c = search needs
-
-shared-slice-read-heard-bit : tie.Need-shared-slice-read-heard-bit Inv-loop μ-loop
-shared-slice-read-heard-bit c = search needs
-
-heard-bit-requires : tie.Need-heard-bit-requires Inv-loop μ-loop
-heard-bit-requires c κs = search needs
-
 add-n : tie.Need-add-n Inv-loop μ-loop
 add-n c = omega (arith, bit-le _ _ (c .heard-bit .ensures))
-
-add-i : tie.Need-add-i Inv-loop μ-loop
-add-i c = search needs
-
-loop-less : tie.Need-loop-less Inv-loop μ-loop
-loop-less c = search needs
 
 loop-again : tie.Need-loop-again Inv-loop μ-loop
 loop-again c = (omega (arith, bit-le _ _ (c .heard-bit .ensures)), count-on _ _ _ (c .before .before .before .loop .inv .1) _ (c .before .before .loop-test .taken) (c .heard-bit .ensures))
@@ -49,11 +34,11 @@ stations-spec =
     Inv-loop
     μ-loop
     loop-holds
-    mul-heard-bit
-    shared-slice-read-heard-bit
-    heard-bit-requires
+    (λ c. search needs)
+    (λ c. search needs)
+    (λ c κs. search needs)
     add-n
-    add-i
-    loop-less
+    (λ c. search needs)
+    (λ c. search needs)
     loop-again
     returns)

@@ -7,18 +7,6 @@ use borrow.Author.Needs.{needs}
 use Rattle.stuffing.proofs.stuff.put_byte.Statement.{statement}
 use Rattle.stuffing.proofs.stuff.put_byte.Tie as tie
 
-turn-requires : tie.Need-turn-requires
-turn-requires c κs = search needs
-
-spread-requires : tie.Need-spread-requires
-spread-requires c κs = search needs
-
-store-eight-requires : tie.Need-store-eight-requires
-store-eight-requires c κs = search needs
-
-same-length : tie.Need-same-length
-same-length c = search needs
-
 returns : tie.Need-returns
 returns c =
     let s = c .before .before .before .before .before .before .before in
@@ -27,4 +15,4 @@ returns c =
 
 pub put-byte-spec : {M : Type 1} → statement M
 put-byte-spec =
-    tie.close (tie.spec turn-requires spread-requires store-eight-requires same-length returns)
+    tie.close (tie.spec (λ c κs. search needs) (λ c κs. search needs) (λ c κs. search needs) (λ c. search needs) returns)

@@ -15,29 +15,11 @@ made s low = record {
   done = s .done + (1 - low / 0x8000000000000000);
 }
 
-up-to-lowest-requires : tie.Need-up-to-lowest-requires
-up-to-lowest-requires c κs = search needs
-
 sub-t4 : tie.Need-sub-t4
 sub-t4 c = omega (arith, and-le-l (c .before .before .before .args .s .bits) (c .before .before .up-to-lowest .result))
 
-add-t5 : tie.Need-add-t5
-add-t5 c = search needs
-
-add-t7 : tie.Need-add-t7
-add-t7 c = search needs
-
 sub-t9 : tie.Need-sub-t9
 sub-t9 c = let low = c .before .before .before .before .before .up-to-lowest .result in omega (arith, and-le-l (c .before .before .before .before .before .before .args .s .marks) (low * 2 ^ 4 % 2 ^ 64 + 15))
-
-mul-t10 : tie.Need-mul-t10
-mul-t10 c = search needs
-
-sub-t12 : tie.Need-sub-t12
-sub-t12 c = search needs
-
-add-t13 : tie.Need-add-t13
-add-t13 c = search needs
 
 returns : tie.Need-returns
 unfolding zeroPut
@@ -48,4 +30,4 @@ returns c =
 pub put-zero-spec : {M : Type 1} → statement M
 put-zero-spec =
     tie.close
-    (tie.spec up-to-lowest-requires sub-t4 add-t5 add-t7 sub-t9 mul-t10 sub-t12 add-t13 returns)
+    (tie.spec (λ c κs. search needs) sub-t4 (λ c. search needs) (λ c. search needs) sub-t9 (λ c. search needs) (λ c. search needs) (λ c. search needs) returns)

@@ -4,15 +4,6 @@ use borrow.Author.Needs.{needs}
 use Rattle.stuffing.proofs.stuff.send_byte.Statement.{statement}
 use Rattle.stuffing.proofs.stuff.send_byte.Tie as tie
 
-stuff-word-requires : tie.Need-stuff-word-requires
-stuff-word-requires c κs = search needs
-
-put-two-requires : tie.Need-put-two-requires
-put-two-requires c κs = search needs
-
-add-t11 : tie.Need-add-t11
-add-t11 c = search needs
-
 add-t13 : tie.Need-add-t13
 add-t13 c = let s = c .before .before .before .before .before .before in omega (arith, done-few 4 (s .args .b) (omega arith) (omega (arith, s .fits .b)) (s .pre .1) (c .before .before .before .before .stuff-word .ensures))
 
@@ -21,9 +12,6 @@ add-t7 c = let s = c .before .before .before .before .before .before .before in 
 
 shr-t14 : tie.Need-shr-t14
 shr-t14 c = let s = c .before .before .before .before .before .before .before .before in omega (arith, done-few 4 (s .args .b) (omega arith) (omega (arith, s .fits .b)) (s .pre .1) (c .before .before .before .before .before .before .stuff-word .ensures))
-
-same-length : tie.Need-same-length
-same-length c = search needs
 
 returns : tie.Need-returns
 returns c =
@@ -34,11 +22,11 @@ pub send-byte-spec : {M : Type 1} → statement M
 send-byte-spec =
     tie.close
     (tie.spec
-    stuff-word-requires
-    put-two-requires
-    add-t11
+    (λ c κs. search needs)
+    (λ c κs. search needs)
+    (λ c. search needs)
     add-t13
     add-t7
     shr-t14
-    same-length
+    (λ c. search needs)
     returns)

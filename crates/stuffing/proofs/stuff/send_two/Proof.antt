@@ -4,24 +4,6 @@ use borrow.Author.Needs.{needs}
 use Rattle.stuffing.proofs.stuff.send_two.Statement.{statement}
 use Rattle.stuffing.proofs.stuff.send_two.Tie as tie
 
-stuff-word-requires : tie.Need-stuff-word-requires
-stuff-word-requires c κs = search needs
-
-put-two-requires : tie.Need-put-two-requires
-put-two-requires c κs = search needs
-
-cast-put-byte : tie.Need-cast-put-byte
-cast-put-byte c = search needs
-
-add-put-byte : tie.Need-add-put-byte
-add-put-byte c = search needs
-
-put-byte-requires : tie.Need-put-byte-requires
-put-byte-requires c κs = search needs
-
-add-t15 : tie.Need-add-t15
-add-t15 c = search needs
-
 add-t17 : tie.Need-add-t17
 add-t17 c = let s = c .before .before .before .before .before .before .before .before .before .before .before in omega (arith, done-few 12 (s .args .v) (omega arith) (s .pre .1) (s .pre .2) (c .before .before .before .before .before .before .before .before .before .stuff-word .ensures))
 
@@ -30,9 +12,6 @@ add-t10 c = let s = c .before .before .before .before .before .before .before .b
 
 shr-t11 : tie.Need-shr-t11
 shr-t11 c = let s = c .before .before .before .before .before .before .before .before .before .before .before .before .before in omega (arith, done-few 12 (s .args .v) (omega arith) (s .pre .1) (s .pre .2) (c .before .before .before .before .before .before .before .before .before .before .before .stuff-word .ensures))
-
-same-length : tie.Need-same-length
-same-length c = search needs
 
 returns : tie.Need-returns
 returns c =
@@ -44,14 +23,14 @@ pub send-two-spec : {M : Type 1} → statement M
 send-two-spec =
     tie.close
     (tie.spec
-    stuff-word-requires
-    put-two-requires
-    cast-put-byte
-    add-put-byte
-    put-byte-requires
-    add-t15
+    (λ c κs. search needs)
+    (λ c κs. search needs)
+    (λ c. search needs)
+    (λ c. search needs)
+    (λ c κs. search needs)
+    (λ c. search needs)
     add-t17
     add-t10
     shr-t11
-    same-length
+    (λ c. search needs)
     returns)

@@ -4,15 +4,6 @@ use borrow.Author.Needs.{needs}
 use Rattle.stuffing.proofs.stuff.send_word.Statement.{statement}
 use Rattle.stuffing.proofs.stuff.send_word.Tie as tie
 
-stuff-word-requires : tie.Need-stuff-word-requires
-stuff-word-requires c κs = search needs
-
-put-five-requires : tie.Need-put-five-requires
-put-five-requires c κs = search needs
-
-add-t10 : tie.Need-add-t10
-add-t10 c = search needs
-
 add-t12 : tie.Need-add-t12
 add-t12 c = let s = c .before .before .before .before .before .before in omega (arith, done-few 28 (s .args .v) (omega arith) (s .pre .1) (s .pre .2) (c .before .before .before .before .stuff-word .ensures))
 
@@ -21,9 +12,6 @@ add-t13 c = let s = c .before .before .before .before .before .before .before in
 
 shr-t14 : tie.Need-shr-t14
 shr-t14 c = let s = c .before .before .before .before .before .before .before .before in omega (arith, done-few 28 (s .args .v) (omega arith) (s .pre .1) (s .pre .2) (c .before .before .before .before .before .before .stuff-word .ensures))
-
-same-length : tie.Need-same-length
-same-length c = search needs
 
 returns : tie.Need-returns
 returns c =
@@ -34,11 +22,11 @@ pub send-word-spec : {M : Type 1} → statement M
 send-word-spec =
     tie.close
     (tie.spec
-    stuff-word-requires
-    put-five-requires
-    add-t10
+    (λ c κs. search needs)
+    (λ c κs. search needs)
+    (λ c. search needs)
     add-t12
     add-t13
     shr-t14
-    same-length
+    (λ c. search needs)
     returns)

@@ -5,18 +5,9 @@ use borrow.Author.Needs.{needs}
 use Rattle.stuffing.proofs.unstuff.put_in.Statement.{statement}
 use Rattle.stuffing.proofs.unstuff.put_in.Tie as tie
 
-mul-fives : tie.Need-mul-fives
-mul-fives c = search needs
-
-add-fives : tie.Need-add-fives
-add-fives c = search needs
-
-fives-requires : tie.Need-fives-requires
-fives-requires c κs = search needs
-
 returns : tie.Need-returns
 unfolding putIn
 returns c = ap (λ (x : ℕ). x % 2 ^ 32) (c .fives .ensures)
 
 pub put-in-spec : {M : Type 1} → statement M
-put-in-spec = tie.close (tie.spec mul-fives add-fives fives-requires returns)
+put-in-spec = tie.close (tie.spec (λ c. search needs) (λ c. search needs) (λ c κs. search needs) returns)

@@ -6,9 +6,6 @@ use borrow.Author.Needs.{needs}
 use Rattle.stuffing.proofs.unstuff.take_word.Statement.{statement}
 use Rattle.stuffing.proofs.unstuff.take_word.Tie as tie
 
-put-in-requires : tie.Need-put-in-requires
-put-in-requires c κs = search needs
-
 returns : tie.Need-returns
 returns c = took-spoilt _ _ _ (c .before .before .before .pre .0) (c .before .before .before .pre .1) (c .before .put-in .ensures) (c .if1 .taken) refl refl refl refl refl
 
@@ -16,30 +13,12 @@ unstuff-word-requires : tie.Need-unstuff-word-requires
 unfolding putIn
 unstuff-word-requires c κs = (c .before .before .before .pre .0, omega (arith, c .before .put-in .ensures), c .if1 .left)
 
-shl-part : tie.Need-shl-part
-shl-part c = search needs
-
 add-part : tie.Need-add-part
 add-part c = record { fits = sum-fits _ _ _ _ (c .before .before .before .before .before .before .pre .1 .small) (c .before .before .before .before .before .before .pre .1 .under) (c .before .before .unstuff-word .ensures .small) }
-
-add-t12 : tie.Need-add-t12
-add-t12 c = search needs
-
-sub-t13 : tie.Need-sub-t13
-sub-t13 c = search needs
 
 returns-2 : tie.Need-returns-2
 returns-2 c =
     took-part _ _ _ (c .before .before .before .before .before .before .before .before .before .pre .0) (c .before .before .before .before .before .before .before .before .before .pre .1) (c .before .before .before .before .before .before .before .put-in .ensures) (c .before .before .before .before .before .before .if1 .left) (c .before .before .before .before .before .unstuff-word .ensures) _ refl refl (c .before .if2 .taken) refl refl refl
-
-store-eight-requires : tie.Need-store-eight-requires
-store-eight-requires c κs = search needs
-
-add-t18 : tie.Need-add-t18
-add-t18 c = search needs
-
-same-length : tie.Need-same-length
-same-length c = search needs
 
 returns-3 : tie.Need-returns-3
 returns-3 c =
@@ -49,15 +28,15 @@ pub take-word-spec : {M : Type 1} → statement M
 take-word-spec =
     tie.close
     (tie.spec
-    put-in-requires
+    (λ c κs. search needs)
     returns
     unstuff-word-requires
-    shl-part
+    (λ c. search needs)
     add-part
-    add-t12
-    sub-t13
+    (λ c. search needs)
+    (λ c. search needs)
     returns-2
-    store-eight-requires
-    add-t18
-    same-length
+    (λ c κs. search needs)
+    (λ c. search needs)
+    (λ c. search needs)
     returns-3)

@@ -1,0 +1,18 @@
+-- `sum_out` meets its contract.
+-- Assumes nothing.
+use Rattle.answering.proofs.Cores.{with-order, sum-other, sum-other-book, sum-done}
+use borrow.Author.Needs.{needs}
+use Rattle.answering.proofs.doing.sum_out.Statement.{statement}
+use Rattle.answering.proofs.doing.sum_out.Tie as tie
+
+returns : tie.Need-returns
+returns c = sum-other _ _ _ _ (c .before .if1 .taken) (c .refused .ensures)
+
+returns-2 : tie.Need-returns-2
+returns-2 c = sum-other-book _ _ _ _ (search needs) (c .before .if2 .taken) (c .refused2 .ensures)
+
+returns-3 : tie.Need-returns-3
+returns-3 c = sum-done _ _ _ _ _ (search needs) (search needs) (with-order _ _ (c .before .before .nothing .ensures)) (c .total .ensures)
+
+pub sum-out-spec : {M : Type 1} → statement M
+sum-out-spec = tie.close (tie.spec (λ c κs. search needs) returns (λ c κs. search needs) returns-2 (λ c κs. search needs) (λ c κs. search needs) returns-3)
