@@ -75,19 +75,26 @@ bool second_lies_beyond(const struct rows *rows)
     return false;
 }
 
+static void go_on(struct row *row)
+{
+    row->time++;
+    if (row->time == row->times) {
+        row->time = 0;
+        row->frame++;
+    }
+}
+
 /* A time is the row's if for some frame and some time of the step it lies in the run of slots. The runs come in the
  * order of time, so one that ends before `earliest` need not be asked again. */
 static uint64_t next_of_row(struct row *row, uint64_t earliest)
 {
-    for (; row->frame < row->frames; row->frame++) {
-        for (; row->time < row->times; row->time++) {
-            uint64_t first = row->from + row->step * row->time + SECOND_FRAME * row->frame;
-            uint64_t ahead = first > earliest ? first : earliest;
-            if (ahead < first + row->slots) {
-                return ahead;
-            }
+    while (row->frame < row->frames) {
+        uint64_t first = row->from + row->step * row->time + SECOND_FRAME * row->frame;
+        uint64_t ahead = first > earliest ? first : earliest;
+        if (ahead < first + row->slots) {
+            return ahead;
         }
-        row->time = 0;
+        go_on(row);
     }
     return UINT64_MAX;
 }

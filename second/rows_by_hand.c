@@ -1,5 +1,5 @@
-/* rows_by_hand.c - what a report announces: the times of its rows; and the order in which they are freed and marked, which
- * shows where counts do not belong to the slots. Worked out by hand. */
+/* rows_by_hand.c - what a report announces: the times of its rows; and the order in which they are freed and marked,
+ * which shows where counts do not belong to the slots. Worked out by hand. */
 #include "book_by_hand.h"
 #include "book_case.h"
 #include "rows.h"
