@@ -3,8 +3,8 @@
 use mathlib.Core.Path.{_≡_, refl, sym, ap, _∙_}
 use mathlib.Core.Bool.{Bool, true, false}
 use mathlib.Core.List.{List, [], _∷_}
-use Prim.Native.Nat.{ℕ, zero, suc, _+_, _-_, _*_, _/_, _≤_, _<_, min}
-use native.Mathlib.Nat.{le-div-iff-mul-le, div-lt-iff-lt-mul, not-suc-le-zero, le-of-suc-le-suc}
+use Prim.Native.Nat.{ℕ, zero, suc, _+_, _-_, _*_, _≤_, _<_, min}
+use native.Mathlib.Nat.{mul-le-mul, mul-comm, zero-mul, not-suc-le-zero, le-of-suc-le-suc}
 use native.Mathlib.Decide.{decLe}
 use native.Mathlib.Numerals.{add-one}
 use native.Mathlib.Omega.{arith}
@@ -69,14 +69,30 @@ module _ (r : Row) where
       → r .from + frameSlots * f + r .step * (r .times - 1) + r .slots ≤ slotTimes
   runs-inside e h f l = omega (arith, end-is e, leb-true (endOf r) slotTimes h)
 
--- ---- n steps, cut the same way
+-- ---- a product, cut the same way
 
-module _ (step n : ℕ) (some : n ≡ 0 → ⊥) where
-  pub step-far : slotTimes / n < step → slotTimes + 1 ≡ min (step * n) (slotTimes + 1)
-  step-far l = omega (arith, div-lt-iff-lt-mul {k = n} {x = slotTimes} {y = step} (omega arith) .0 l)
+-- factors that are cut to a bound, and then their product, make the product cut to it
+module _ (m a b : ℕ) (some : 0 < m) where
+  pub cut-product : min (min a m * min b m) m ≡ min (a * b) m
+  cut-product = go (decLe a 0) (decLe b 0) (decLe a m) (decLe b m)
+    where
+      -- one factor above the bound is enough, if the other is not 0
+      large : (x y : ℕ) → m ≤ x → 0 < y → m ≤ x * y
+      large x y l k = omega (arith, mul-le-mul {n₁ = m} {m₁ = 1} {n₂ = x} {m₂ = y} l k)
 
-  pub step-near : step ≤ slotTimes / n → step * n ≤ slotTimes
-  step-near l = le-div-iff-mul-le {k = n} {x = step} {y = slotTimes} (omega arith) .0 l
+      none : (x y : ℕ) → x ≡ 0 → x * y ≡ 0
+      none x y e = rw e (zero-mul y)
+
+      go : Dec (a ≤ 0) → Dec (b ≤ 0) → Dec (a ≤ m) → Dec (b ≤ m) → min (min a m * min b m) m ≡ min (a * b) m
+      go (yes z) _ _ _ = omega (arith, none a b (omega arith), none (min a m) (min b m) (omega arith))
+      go (no _) (yes z) _ _ =
+          omega (arith, none b a (omega arith), none (min b m) (min a m) (omega arith), mul-comm a b, mul-comm (min a m) (min b m))
+      go (no p) (no q) (yes k) (yes l) =
+          let e : min a m ≡ a = omega arith in let f : min b m ≡ b = omega arith in rw (e, f) refl
+      go (no p) (no q) (no k) _ =
+          omega (arith, large (min a m) (min b m) (omega arith) (omega arith), large a b (omega arith) (omega arith))
+      go (no p) (no q) (yes k) (no l) =
+          omega (arith, large (min b m) (min a m) (omega arith) (omega arith), large b a (omega arith) (omega arith), mul-comm a b, mul-comm (min a m) (min b m))
 
 -- ---- all rows
 

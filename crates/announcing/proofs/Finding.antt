@@ -31,21 +31,17 @@ module _ (past step times : ℕ) (some : 0 < times) where
       let none : step * (times - 1) ≡ 0 = rw e (zero-mul (times - 1)) in
       record { among = omega arith; begun = omega arith; last = λ l. absurd (omega arith) }
 
-  module _ (n : step ≡ 0 → ⊥) where
-    pub last-begun : past / step < times → Last past step times (past / step)
+  module _ (n : step ≡ 0 → ⊥) (i : ℕ) (e : i ≡ past / step) where
+    pub last-begun : i < times → Last past step times i
     last-begun l =
-        let i = past / step in
+        let reached : i * step ≤ past = le-div-iff-mul-le {k = step} {x = i} {y = past} (omega arith) .0 (omega arith) in
         let over : past < (i + 1) * step = div-lt-iff-lt-mul {k = step} {x = past} {y = i + 1} (omega arith) .0 (omega arith) in
-        record {
-          among = l;
-          begun = omega (arith, div-mul-le-self past step, mul-comm i step);
-          last = λ m. omega (arith, over, mul-comm (i + 1) step);
-        }
+        record { among = l; begun = omega (arith, mul-comm i step); last = λ m. omega (arith, mul-comm (i + 1) step) }
 
-    pub last-all : times ≤ past / step → Last past step times (times - 1)
+    pub last-all : times ≤ i → Last past step times (times - 1)
     last-all l =
         let reached : (times - 1) * step ≤ past = le-div-iff-mul-le {k = step} {x = times - 1} {y = past} (omega arith) .0 (omega arith) in
-        record { among = omega arith; begun = omega (arith, reached, mul-comm (times - 1) step); last = λ m. absurd (omega arith) }
+        record { among = omega arith; begun = omega (arith, mul-comm (times - 1) step); last = λ m. absurd (omega arith) }
 
 -- ---- the runs of a row in one frame
 

@@ -186,13 +186,7 @@ fn capped(x: usize) -> usize
 fn reach(step: usize, n: usize) -> usize
     ensures { λ r. ⌜ r ≡ min (step * n) (slotTimes + 1) ⌝ }
 {
-    if n == 0 {
-        return 0;
-    }
-    if step > SLOT_TIMES / n {
-        return SLOT_TIMES + 1;
-    }
-    step * n
+    capped(capped(step) * capped(n))
 }
 
 fn row_within(r: Row) -> bool

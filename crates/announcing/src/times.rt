@@ -1,7 +1,7 @@
 // The times of rows, one after the other, without a pass over all slot times. Promise: each answer is the next time of what it asks (specs/Next.antt).
 ghost use mathlib.Core.Path.{_≡_};
 ghost use mathlib.Core.Bool.{true};
-ghost use Prim.Native.Nat.{_+_, _-_, _*_, _≤_, _<_, min};
+ghost use Prim.Native.Nat.{_+_, _-_, _*_, _/_, _≤_, _<_, min};
 ghost use lib.Dec.{leb};
 ghost use Rattle.limits.specs.Limits.{slotTimes};
 ghost use Rattle.announcing.specs.Rows.{hasTime, endOf, inBook};
@@ -18,6 +18,17 @@ fn sooner(a: usize, b: usize) -> usize
     if a < b { a } else { b }
 }
 
+// Whole steps in a distance. Most rows step by frames, and dividing by a constant takes a fraction of the time.
+fn steps(past: usize, step: usize) -> usize
+    requires { ⌜ 0 < step ⌝ }
+    ensures { λ i. ⌜ i ≡ past / step ⌝ }
+{
+    if step == FRAME {
+        return past / FRAME;
+    }
+    past / step
+}
+
 // Of `times` runs, each a step farther, the last that begins at most `past` behind the first.
 fn last_run(past: usize, step: usize, times: usize) -> usize
     requires { ⌜ 0 < times ⌝ }
@@ -26,7 +37,7 @@ fn last_run(past: usize, step: usize, times: usize) -> usize
     if step == 0 {
         return times - 1;
     }
-    let i = past / step;
+    let i = steps(past, step);
     if i < times {
         return i;
     }

@@ -78,11 +78,11 @@ module _ (o : Order) (s : Station) (tally word : ℕ) where
   made-new e = rw e
 
   -- it is not
-  pub not-new : o .fresh ≡ false → (h : ℕ) (lat lon : ℤ) → h ≡ holdAfter (s .hold) word o → lat ≡ s .latitude → lon ≡ s .longitude
-      → _≡_ {A = Station} (record { source = s .source; base = s .base; latitude = lat; longitude = lon; tally = tally; hold = h }) (keep o s tally word)
+  pub not-new : o .fresh ≡ false → (h : ℕ) → h ≡ holdAfter (s .hold) word o
+      → _≡_ {A = Station} (record { source = s .source; base = s .base; latitude = s .latitude; longitude = s .longitude; tally = tally; hold = h }) (keep o s tally word)
   unfolding keep
-  not-new n h lat lon is e f =
-      (λ j. record { source = s .source; base = s .base; latitude = e j; longitude = f j; tally = tally; hold = is j }) ∙ rw n
+  not-new n h is =
+      (λ j. record { source = s .source; base = s .base; latitude = s .latitude; longitude = s .longitude; tally = tally; hold = is j }) ∙ rw n
 
 -- ---- a station entered in it
 

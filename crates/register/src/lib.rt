@@ -166,14 +166,10 @@ pub fn keep(s: Station, tally: u16, word: u32, o: Order) -> Station
         return blank();
     }
     let hold = hold_after(s.hold, word, o);
-    Station {
-        source: s.source,
-        base: s.base,
-        latitude: s.latitude,
-        longitude: s.longitude,
-        tally,
-        hold,
-    }
+    let mut t = s;
+    t.tally = tally;
+    t.hold = hold;
+    t
 }
 
 // The record that a station has now.

@@ -9,9 +9,12 @@ use Rattle.announcing.proofs.marks.book_times.Tie as tie
 returns : tie.Need-returns
 unfolding booked
 returns c =
-    let a = c .before .before .before .before .before .before .before .before .before .before .before .before .before .before .before .before .args in
-    let freed = c .before .before .before .before .before .before .before .before .before .before .before .free-times .ensures in
-    let marked = c .before .before .before .before .mark-times .ensures in
+    let marking = c .before .before .before .before in
+    let freeing = marking .before .before .before .before .before .before .before in
+    let start = freeing .before .before .before .before .before in
+    let a = start .args in
+    let freed = freeing .free-times .ensures in
+    let marked = marking .mark-times .ensures in
     let marks : Book → Book = λ b. atTimes (marksTime (a .rows)) (λ (x : Book) (d : ℕ). markAt x (place (a .present) d) (a .h)) b in
     (marked .0 ∙ ap marks freed, marked .1)
 

@@ -24,7 +24,11 @@ loop-holds : tie.Need-loop-holds Inv-loop μ-loop
 loop-holds c = (refl, refl, gone-start (c .next-time .ensures))
 
 next-time-requires-2 : tie.Need-next-time-requires-2 Inv-loop μ-loop
-next-time-requires-2 c κs = (c .before .before .before .before .before .before .before .before .before .before .before .before .before .pre .2, omega arith)
+next-time-requires-2 c κs =
+    let freed = c .before .before .before .before in
+    let head = freed .before .before .before .before .before in
+    let start = head .before .before .before .before in
+    (start .pre .2, omega arith)
 
 loop-less : tie.Need-loop-less Inv-loop μ-loop
 loop-less c =
@@ -33,9 +37,12 @@ loop-less c =
 
 loop-again : tie.Need-loop-again Inv-loop μ-loop
 loop-again c =
-    let l = c .before .before .before .before .before .before .before .before .before .before .loop in
-    let freed = rw (c .before .before .before .before .before .before .before .before .place .ensures) at (c .before .before .before .before .before .free .ensures) in
-    (search needs, search needs, gone-more (l .inv .2) (c .before .before .before .before .before .before .before .before .before .loop-test .taken) freed (c .next-time2 .ensures))
+    let freed = c .before .before .before .before .before in
+    let placed = freed .before .before .before in
+    let tested = placed .before in
+    let head = tested .before in
+    let there = rw (placed .place .ensures) at (freed .free .ensures) in
+    (search needs, search needs, gone-more (head .loop .inv .2) (tested .loop-test .taken) there (c .next-time2 .ensures))
 
 returns : tie.Need-returns Inv-loop μ-loop
 unfolding atTimes

@@ -13,11 +13,11 @@ add-t16 c =
 
 returns : tie.Need-returns
 returns c =
-    let there = c .before .before .before .before .before .before .before .before .before .before .place .ensures in
-    let marked = c .before .before .before .before .before .before .before .mark .ensures in
-    let counted = c .before .held .ensures in
-    let b = c .before .before .before .before .before .before .before .before .before .before .before .before .before .args .b in
-    (rw there at marked, ap (λ (n : ℕ). b .marks + n) (rw there at counted))
+    let marked = c .before .before .before .before .before .before .before in
+    let placed = marked .before .before .before in
+    let start = placed .before .before .before in
+    let there = placed .place .ensures in
+    (rw there at (marked .mark .ensures), ap (λ (n : ℕ). start .args .b .marks + n) (rw there at (c .before .held .ensures)))
 
 pub mark-one-spec : {M : Type 1} → statement M
 mark-one-spec =

@@ -39,7 +39,11 @@ mark-one-requires c κs =
     (search needs, search needs, omega arith, omega (arith, few, l .inv .3))
 
 next-time-requires-2 : tie.Need-next-time-requires-2 Inv-loop μ-loop
-next-time-requires-2 c κs = (c .before .before .before .before .before .before .before .before .before .before .before .before .pre .2, omega arith)
+next-time-requires-2 c κs =
+    let marked = c .before .before .before .before in
+    let head = marked .before .before .before .before in
+    let start = head .before .before .before .before in
+    (start .pre .2, omega arith)
 
 loop-less : tie.Need-loop-less Inv-loop μ-loop
 loop-less c =
@@ -48,12 +52,14 @@ loop-less c =
 
 loop-again : tie.Need-loop-again Inv-loop μ-loop
 loop-again c =
-    let head = c .before .before .before .before .before .before .before .before .before in
+    let entered = c .before .before .before .before .before in
+    let tested = entered .before .before .before in
+    let head = tested .before in
     let start = head .before .before .before .before in
     let a = start .args in
     let l = head .loop in
-    let test = c .before .before .before .before .before .before .before .before .loop-test .taken in
-    let marked = c .before .before .before .before .before .mark-one .ensures in
+    let test = tested .loop-test .taken in
+    let marked = entered .mark-one .ensures in
     let next = c .next-time2 .ensures in
     let gone = l .inv .2 in
     let before = bookOf (l .book) (l .tallies) (l .b .counts) in
