@@ -1,6 +1,6 @@
 /* The speed of choosing at one report a frame and time-out 7, in an empty, a half-full and a full book: ours beside the
  * second program. First both have to choose the same; then they are timed in turns, and the best of each one's rounds
- * counts. Ours is given a record's reach, as the public call makes it, within the time that is taken.
+ * counts. Both choose on the same records and slots, which lie in memory alike; taking a choice back is in the time of both.
  *
  * Usage: bench_choosing MACHINE, where MACHINE is what the head line says about the machine, such as "native x86-64". */
 #define _POSIX_C_SOURCE 199309L
@@ -17,7 +17,7 @@
 #define FLAGS "flags not named"
 #endif
 
-enum { RATE = 1, START = 1000, TIME_OUT = 7, CHOICES = 64, ROUNDS = 15, OUT = 6 };
+enum { RATE = 1, START = 1000, TIME_OUT = 7, CHOICES = 64, ROUNDS = 15 };
 
 enum program { OURS, SECOND, PROGRAMS };
 
@@ -27,8 +27,6 @@ static const char *const fill_names[FILLS] = {"empty book", "half full", "full"}
 
 static uint16_t slots[SECOND_SLOTS];
 static struct station records[SECOND_RECORDS];
-static uint16_t tallies[SECOND_RECORDS];
-static uint32_t reaches[SECOND_RECORDS];
 static struct book book;
 
 /* What a choice is made on, so that each choice finds the same. */
@@ -66,21 +64,34 @@ static void take_back(size_t distance)
     book = kept_book;
 }
 
+/* The low byte first. */
+static void put(uint8_t *bytes, uint32_t value, size_t count)
+{
+    for (size_t i = 0; i < count; i++) {
+        bytes[i] = (uint8_t)(value >> 8 * i);
+    }
+}
+
+static void put_asked(uint8_t asked[ASKED_BYTES])
+{
+    const uint32_t words[ASKED_WORDS] = {
+        [ASKED_NOW] = (uint32_t)book.now, [ASKED_FREE] = book.channel.free, [ASKED_OWN] = book.channel.own,
+        [ASKED_RATE] = RATE,              [ASKED_START] = START,            [ASKED_TIME_OUT] = TIME_OUT,
+    };
+    for (size_t i = 0; i < ASKED_WORDS; i++) {
+        put(asked + 2 * i, words[i], 2);
+    }
+    put(asked + ASKED_LATITUDE, (uint32_t)book.ship.latitude, 4);
+    put(asked + ASKED_LONGITUDE, (uint32_t)book.ship.longitude, 4);
+}
+
 static uint32_t ours(uint16_t draw, struct chosen *chosen)
 {
-    size_t out[OUT];
-    for (size_t i = 0; i < SECOND_RECORDS; i++) {
-        const struct station *one = &records[i];
-        tallies[i] = one->tally;
-        reaches[i] = qs_test_reach(book.ship.latitude, book.ship.longitude, one->base, one->latitude, one->longitude,
-                                    one->hold_off);
-    }
-    uint32_t number = qs_test_choose(slots, SECOND_SLOTS, tallies, SECOND_RECORDS, reaches, SECOND_RECORDS, out, OUT,
-                                      book.channel.free, book.channel.own, book.now, RATE, START, 0, TIME_OUT, draw);
-    if (number == DONE) {
-        *chosen = (struct chosen){(uint32_t)out[2], (uint32_t)out[3], (uint32_t)out[4], (uint32_t)out[5]};
-    }
-    return number;
+    uint8_t asked[ASKED_BYTES];
+    put_asked(asked);
+    uint64_t answer = qs_test_choose(records, SECOND_RECORDS, slots, SECOND_SLOTS, asked, sizeof asked, draw);
+    *chosen = (struct chosen){(uint32_t)(answer >> 48), answer >> 32 & 0xffff, answer >> 16 & 0xffff, answer >> 8 & 0xff};
+    return answer & 0xff;
 }
 
 static uint32_t choose(enum program program, uint16_t draw, struct chosen *chosen)

@@ -1,18 +1,27 @@
-/* Choosing of the product, as the crate `testface` gives it to C for this comparison alone. Slices are a pointer and a length. */
+/* Choosing of the product, as the crate `testface` gives it to C for this comparison alone. Slices are a pointer and a
+ * length. */
 #ifndef BENCH_TESTFACE_H
 #define BENCH_TESTFACE_H
 
-#include <stdbool.h>
+#include "../second/book.h"
+
 #include <stddef.h>
 #include <stdint.h>
 
-/* The distance of a station from the ship at latitude and longitude where its slots may be reused. */
-uint32_t qs_test_reach(int32_t latitude, int32_t longitude, bool base, int32_t north, int32_t east, uint16_t hold);
+/* A record of the product's register lies in memory as one of the second program's does. */
+_Static_assert(sizeof(struct station) == 20 && offsetof(struct station, base) == 4 &&
+                   offsetof(struct station, latitude) == 8 && offsetof(struct station, longitude) == 12 &&
+                   offsetof(struct station, tally) == 16 && offsetof(struct station, hold_off) == 18,
+               "a record lies otherwise");
 
-/* Chooses for the lists, the counts, now, the plan and what is asked. Returns 0 and puts free count, own tally, distance,
- * slot number, candidates and marks replaced into `out`, which has six places; or returns the paper's number. */
-uint32_t qs_test_choose(uint16_t *book, size_t book_len, uint16_t *tallies, size_t tallies_len, uint32_t *reaches,
-                         size_t reaches_len, size_t *out, size_t out_len, uint16_t free, uint16_t own, size_t present,
-                         uint16_t rate, uint16_t start, uint16_t k, uint16_t time_out, uint16_t draw);
+/* What is asked, besides the number drawn: seven numbers in two bytes each, in this order, then our latitude and longitude
+ * in four bytes each; the low byte first. */
+enum { ASKED_NOW, ASKED_FREE, ASKED_OWN, ASKED_RATE, ASKED_START, ASKED_K, ASKED_TIME_OUT, ASKED_WORDS };
+enum { ASKED_LATITUDE = 2 * ASKED_WORDS, ASKED_LONGITUDE = ASKED_LATITUDE + 4, ASKED_BYTES = ASKED_LONGITUDE + 4 };
+
+/* Chooses in the register and the book, as the public call does. The answer has, from its low bits on: the number of a
+ * refusal, 0 for none (8 bits); marks replaced (8); candidates, slot number and distance (16 each). */
+uint64_t qs_test_choose(struct station *records, size_t records_len, uint16_t *book, size_t book_len, const uint8_t *asked,
+                        size_t asked_len, uint16_t draw);
 
 #endif

@@ -1,5 +1,6 @@
 # The intermediate code of a module in which the functions `calls` are kept functions of their own, and are called, with values that nothing is
-# known of, so that nothing is folded away. With `kind` tables every function gets an unwind table. A function that is not there is an error.
+# known of, so that nothing is folded away. `apart` is one more that is kept. With `kind` tables every function gets an unwind table. A function
+# that is not there is an error.
 BEGIN {
     count = split(calls, listed, " ")
     for (i = 1; i <= count; i++) public[listed[i]] = 1
@@ -35,8 +36,9 @@ function add_call(name, line,    params, words, given, i, n) {
         found[name] = 1
         add_call(name, $0)
         attributes = $(NF - 1)
-        sub(/ #[0-9]+ \{$/, " noinline&")
     }
+    if (name == apart) found[name] = 1
+    if (name in public || name == apart) sub(/ #[0-9]+ \{$/, " noinline&")
     if (kind == "tables") sub(/ #[0-9]+ \{$/, " uwtable&")
 }
 
@@ -45,5 +47,6 @@ function add_call(name, line,    params, words, given, i, n) {
 END {
     if (failed) exit 1
     for (i = 1; i <= count; i++) if (!(listed[i] in found)) stop("there is no function " listed[i])
+    if (apart != "" && !(apart in found)) stop("there is no function " apart)
     print "declare ptr @anything()\n\ndefine void @every_call() " attributes " {\n" body "  ret void\n}"
 }

@@ -1,5 +1,6 @@
-# From assembly with unwind tables: how much stack each of the functions `calls` takes, and by which chain of functions. A function's part in a
-# chain is its return address, its frame, and what it pushes for the call of the next; the last one's is the most that it ever takes.
+# From assembly with unwind tables: how much stack the function `made` takes, and by which chain of functions, in a row for `shown`. `avoided` is a
+# function that is never called on the way. A function's part in a chain is its return address, its frame, and what it pushes for the call of the
+# next; the last one's is the most that it ever takes.
 function stop(why) {
     print "stack: " why > "/dev/stderr"
     exit 1
@@ -64,6 +65,7 @@ function walk(name,    next_one, sum, i) {
     if (!(name in returned_to) && lowest[name] > sum) sum = lowest[name]
     chain[name] = name " " sum
     for (i = 1; i <= callees[name]; i++) {
+        if (callee[name, i] == avoided) continue
         next_one = walk(callee[name, i])
         if (part[name, i] + total[next_one] <= sum) continue
         sum = part[name, i] + total[next_one]
@@ -75,11 +77,6 @@ function walk(name,    next_one, sum, i) {
 }
 
 END {
-    count = split(calls, listed, " ")
-    for (k = 1; k <= count; k++) {
-        name = walk(listed[k])
-        shown = listed[k]
-        sub(/^.*::/, "", shown)
-        printf "%-18s %5d  %s\n", shown, total[name], chain[name]
-    }
+    name = walk(made)
+    printf "%-18s %5d  %s\n", shown, total[name], chain[name]
 }

@@ -3,9 +3,8 @@
 use mathlib.Core.Path.{_≡_, refl, sym, ap, _∙_}
 use mathlib.Core.Bool.{Bool, true, false}
 use mathlib.Core.List.{List, [], _∷_}
-use Prim.Native.Nat.{ℕ, zero, suc, _+_, _-_, _*_, _≤_, _<_, min}
-use native.Mathlib.Nat.{mul-le-mul, mul-comm, zero-mul, not-suc-le-zero, le-of-suc-le-suc}
-use native.Mathlib.Decide.{decLe}
+use Prim.Native.Nat.{ℕ, zero, suc, _+_, _-_, _*_, _≤_, _<_}
+use native.Mathlib.Nat.{mul-le-mul, not-suc-le-zero, le-of-suc-le-suc}
 use native.Mathlib.Numerals.{add-one}
 use native.Mathlib.Omega.{arith}
 use borrow.Author.Tests.{eq-eqb, ne-eqb, le-leb, lt-leb, leb-true, eqb-false}
@@ -54,45 +53,27 @@ module _ (r : Row) where
   unfolding endOf
   end-is e = rw e
 
-  -- where the parts of the sum are cut to one more than the book has, the sum decides all the same
-  pub end-cut : (a b c n : ℕ) → isEmpty r ≡ false → a ≡ min (r .from) (slotTimes + 1) → b ≡ min (r .step * (r .times - 1)) (slotTimes + 1)
-      → c ≡ min (frameSlots * (r .frames - 1)) (slotTimes + 1) → n ≡ min (r .slots) (slotTimes + 1)
-      → leb (a + (b + c) + n) slotTimes ≡ leb (endOf r) slotTimes
-  end-cut a b c n e p q s t = go (decLe (a + (b + c) + n) slotTimes)
-    where
-      go : Dec (a + (b + c) + n ≤ slotTimes) → leb (a + (b + c) + n) slotTimes ≡ leb (endOf r) slotTimes
-      go (yes h) = le-leb (a + (b + c) + n) slotTimes h ∙ sym (le-leb (endOf r) slotTimes (omega (arith, end-is e)))
-      go (no h) = lt-leb (a + (b + c) + n) slotTimes (omega arith) ∙ sym (lt-leb (endOf r) slotTimes (omega (arith, end-is e)))
+  -- a row that begins beyond the book ends beyond it
+  pub end-beyond : isEmpty r ≡ false → slotTimes < r .from → false ≡ leb (endOf r) slotTimes
+  end-beyond e l = sym (lt-leb (endOf r) slotTimes (omega (arith, end-is e)))
+
+  -- any other ends where the code's sum says
+  pub end-decides : isEmpty r ≡ false
+      → leb (r .from + (r .step * (r .times - 1) + frameSlots * (r .frames - 1)) + r .slots) slotTimes ≡ leb (endOf r) slotTimes
+  end-decides e =
+      let sum : r .from + (r .step * (r .times - 1) + frameSlots * (r .frames - 1)) + r .slots ≡ endOf r = omega (arith, end-is e) in
+      ap (λ (n : ℕ). leb n slotTimes) sum
 
   -- the runs of each frame end in the book
   pub runs-inside : isEmpty r ≡ false → leb (endOf r) slotTimes ≡ true → (f : ℕ) → f < r .frames
       → r .from + frameSlots * f + r .step * (r .times - 1) + r .slots ≤ slotTimes
   runs-inside e h f l = omega (arith, end-is e, leb-true (endOf r) slotTimes h)
 
--- ---- a product, cut the same way
+-- ---- numbers of 16 bits
 
--- factors that are cut to a bound, and then their product, make the product cut to it
-module _ (m a b : ℕ) (some : 0 < m) where
-  pub cut-product : min (min a m * min b m) m ≡ min (a * b) m
-  cut-product = go (decLe a 0) (decLe b 0) (decLe a m) (decLe b m)
-    where
-      -- one factor above the bound is enough, if the other is not 0
-      large : (x y : ℕ) → m ≤ x → 0 < y → m ≤ x * y
-      large x y l k = omega (arith, mul-le-mul {n₁ = m} {m₁ = 1} {n₂ = x} {m₂ = y} l k)
-
-      none : (x y : ℕ) → x ≡ 0 → x * y ≡ 0
-      none x y e = rw e (zero-mul y)
-
-      go : Dec (a ≤ 0) → Dec (b ≤ 0) → Dec (a ≤ m) → Dec (b ≤ m) → min (min a m * min b m) m ≡ min (a * b) m
-      go (yes z) _ _ _ = omega (arith, none a b (omega arith), none (min a m) (min b m) (omega arith))
-      go (no _) (yes z) _ _ =
-          omega (arith, none b a (omega arith), none (min b m) (min a m) (omega arith), mul-comm a b, mul-comm (min a m) (min b m))
-      go (no p) (no q) (yes k) (yes l) =
-          let e : min a m ≡ a = omega arith in let f : min b m ≡ b = omega arith in rw (e, f) refl
-      go (no p) (no q) (no k) _ =
-          omega (arith, large (min a m) (min b m) (omega arith) (omega arith), large a b (omega arith) (omega arith))
-      go (no p) (no q) (yes k) (no l) =
-          omega (arith, large (min b m) (min a m) (omega arith) (omega arith), large b a (omega arith) (omega arith), mul-comm a b, mul-comm (min a m) (min b m))
+-- 64 bits have room for all steps of a row
+pub steps-small : (step times : ℕ) → step ≤ 65535 → times ≤ 65535 → step * (times - 1) ≤ 65535 * 65535
+steps-small step times p q = let fewer : times - 1 ≤ 65535 = omega arith in mul-le-mul p fewer
 
 -- ---- all rows
 

@@ -5,3 +5,4 @@ pub mod Skipping
 pub mod Finding
 pub mod Holding
 pub mod Effect
+pub mod Sizes

@@ -1,6 +1,6 @@
 // Rows of slot times ahead: what a report announces.
 ghost use mathlib.Core.Path.{_≡_};
-ghost use Prim.Native.Nat.{_+_, _*_, _≤_, min};
+ghost use Prim.Native.Nat.{_+_, _≤_, min};
 ghost use mathlib.Core.List.{[], _∷_};
 ghost use lib.Dec.{leb};
 ghost use Rattle.limits.specs.Limits.{slotTimes, mostTimeOut};
@@ -18,18 +18,23 @@ use message::state::SubMessage;
 use message::state::time_out;
 
 // `slots` times in a row from `from` ahead on, again `step` farther, `times` in all, and the same in `frames` frames: marked for the station, or freed
-// if it holds them.
+// if it holds them. Its parts are as small as they may be, since a report keeps its rows on the stack.
 pub struct Row {
     pub from: usize,
-    pub slots: usize,
-    pub step: usize,
-    pub times: usize,
-    pub frames: usize,
+    pub slots: u32,
+    pub step: u16,
+    pub times: u16,
+    pub frames: u16,
     pub marks: bool,
 }
 
 // The most rows of a report. One that has fewer leaves the others unused.
 pub const ROWS: usize = 3;
+
+// A frame and the largest time-out, as the parts of a row are.
+const STEP: u16 = FRAME as u16;
+
+const MOST: u16 = MOST_TIME_OUT as u16;
 
 // ---- what a state announces
 
@@ -46,7 +51,14 @@ fn unused() -> Row
     }
 }
 
-fn block(d: usize, n: usize) -> Row
+// No row at all.
+pub fn no_rows() -> [Row; ROWS]
+    ensures { λ r. ⌜ r ≡ filled [] ⌝ }
+{
+    [unused(); ROWS]
+}
+
+fn block(d: usize, n: u32) -> Row
     ensures { λ r. ⌜ r ≡ block d n ⌝ }
 {
     Row {
@@ -59,14 +71,14 @@ fn block(d: usize, n: usize) -> Row
     }
 }
 
-fn every_frame(i: usize, n: usize, marks: bool) -> Row
+fn every_frame(i: usize, n: u16, marks: bool) -> Row
     requires { ⌜ i ≤ mostTimeOut + 1 ⌝ }
     ensures { λ r. ⌜ r ≡ everyFrame i n marks ⌝ }
 {
     Row {
         from: FRAME * i,
         slots: 1,
-        step: FRAME,
+        step: STEP,
         times: n,
         frames: 1,
         marks,
@@ -74,14 +86,14 @@ fn every_frame(i: usize, n: usize, marks: bool) -> Row
 }
 
 // The frames that are marked. A time-out above the largest is taken for it.
-fn frames(sub: SubMessage) -> usize
+fn frames(sub: SubMessage) -> u16
     ensures { λ r. ⌜ r ≡ min (timeOutOf sub) mostTimeOut ⌝ }
 {
-    let n = time_out(sub) as usize;
-    if n > MOST_TIME_OUT {
-        return MOST_TIME_OUT;
+    let n = time_out(sub);
+    if n > MOST as u32 {
+        return MOST;
     }
-    n
+    n as u16
 }
 
 // One slot at the offset, if the time-out is 0 and the offset is not.
@@ -103,23 +115,23 @@ fn organised(s: SelfOrganised) -> [Row; ROWS]
     let sub = s.sub;
     let n = frames(sub);
     let mut rows = [unused(); ROWS];
-    rows[0] = every_frame(n + 1, MOST_TIME_OUT - n, false);
+    rows[0] = every_frame(n as usize + 1, MOST - n, false);
     rows[1] = every_frame(1, n, true);
     rows[2] = offset(sub);
     rows
 }
 
 // Codes 0 to 4 announce 1 to 5 slots, codes 5 to 7 announce 1 to 3; increment 0 announces none.
-fn slots(i: Incremental) -> usize
+fn slots(i: Incremental) -> u32
     ensures { λ r. ⌜ r ≡ slotsOf i ⌝ }
 {
     if i.increment == 0 {
         return 0;
     }
     if i.code <= 4 {
-        return i.code as usize + 1;
+        return i.code + 1;
     }
-    (i.code - 4) as usize
+    i.code - 4
 }
 
 // The slots of codes 5 to 7 are 8,192 farther ahead.
@@ -172,31 +184,18 @@ pub fn is_empty(r: Row) -> bool
     r.frames == 0
 }
 
-// A number, or one more than the book has times where it is larger: so the parts of a row can be added up, whatever they are.
-fn capped(x: usize) -> usize
-    ensures { λ r. ⌜ r ≡ min x (slotTimes + 1) ⌝ }
-{
-    if x > SLOT_TIMES {
-        return SLOT_TIMES + 1;
-    }
-    x
-}
-
-// n steps, the same way.
-fn reach(step: usize, n: usize) -> usize
-    ensures { λ r. ⌜ r ≡ min (step * n) (slotTimes + 1) ⌝ }
-{
-    capped(capped(step) * capped(n))
-}
-
+// The parts of a row are small, so they can be added up, whatever they are, once its start is known to lie in the book.
 fn row_within(r: Row) -> bool
     ensures { λ t. ⌜ t ≡ leb (endOf r) slotTimes ⌝ }
 {
     if is_empty(r) {
         return true;
     }
-    let last = reach(r.step, r.times - 1) + reach(FRAME, r.frames - 1);
-    capped(r.from) + last + capped(r.slots) <= SLOT_TIMES
+    if r.from > SLOT_TIMES {
+        return false;
+    }
+    let last = r.step as usize * (r.times as usize - 1) + FRAME * (r.frames as usize - 1);
+    r.from + last + r.slots as usize <= SLOT_TIMES
 }
 
 pub fn within(rows: [Row; ROWS]) -> bool

@@ -53,12 +53,14 @@ fn next_run(r: Row, a: usize, d: usize) -> usize
         return a;
     }
     let past = d - a;
-    let i = last_run(past, r.step, r.times);
-    if past - r.step * i < r.slots {
+    let step = r.step as usize;
+    let times = r.times as usize;
+    let i = last_run(past, step, times);
+    if past - step * i < r.slots as usize {
         return d;
     }
-    if i + 1 < r.times {
-        return a + r.step * (i + 1);
+    if i + 1 < times {
+        return a + step * (i + 1);
     }
     SLOT_TIMES
 }
@@ -72,7 +74,7 @@ fn next_in(r: Row, d: usize) -> usize
     }
     let mut t = SLOT_TIMES;
     let mut f: usize = 0;
-    while f < r.frames {
+    while f < r.frames as usize {
         t = sooner(t, next_run(r, r.from + FRAME * f, d));
         f += 1;
     }

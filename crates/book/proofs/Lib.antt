@@ -1,8 +1,8 @@
 pub mod Wide
+pub mod Following
 pub mod Steps
 pub mod Soundness
 pub mod Lengths
 pub mod Once
-pub mod Sizes
 pub mod Plans
-pub mod Promised
+pub mod Releasing

@@ -1,14 +1,16 @@
 -- The slot book: what a mark, a freeing and a release do to it.
 -- Assumes nothing.
+use mathlib.Core.Path.{_≡_}
 use Prim.Native.Nat.{ℕ, _+_, _-_, _%_, min, max}
 use mathlib.Core.Bool.{Bool, true, false}
 use mathlib.Core.List.{List, [], _∷_, _++_}
-use lib.ListN.{getD, set, take, drop}
-use lib.Dec.{eqb}
-use Rattle.laws.specs.Tests.{pick}
+use lib.ListN.{length, getD, set, take, drop}
+use lib.Dec.{eqb, ltb}
+use Rattle.laws.specs.Tests.{pick, both}
 use Rattle.laws.specs.Loops.{upto}
 use Rattle.limits.specs.Limits.{slotTimes, records}
 use Rattle.book.specs.declared.Counts.{Counts}
+use Rattle.book.specs.declared.Handing.{Handing}
 
 -- the holders by their numbers: 0 none, then the records in order, then own
 abbrev pub ours : ℕ
@@ -16,6 +18,9 @@ ours = records + 1
 
 abbrev pub holders : ℕ
 holders = records + 2
+
+unfoldable pub isRecord : ℕ → Bool
+isRecord h = both (ltb 0 h) (ltb h ours)
 
 -- ---- tallies
 
@@ -90,3 +95,27 @@ freeAt b at h = pick (eqb (holder b at) h) (putAt b at 0) b
 -- the marks of h at the places below k are released
 abbrev pub released : ℕ → Book → ℕ → Book
 released h = upto (λ b at. freeAt b at h)
+
+-- ---- the same where each record keeps its own tally: the counts, and the records' tallies t
+
+-- the count of nobody, or our own, changed by f where h is that holder
+unfoldable pub countsBy : (ℕ → ℕ) → Counts → ℕ → Counts
+countsBy f c h =
+    pick (eqb h 0) (record { free = f (c .free); own = c .own })
+    (pick (eqb h ours) (record { free = c .free; own = f (c .own) }) c)
+
+-- the tally of the holder h changed by f where h is a record
+unfoldable pub talliesBy : (ℕ → ℕ) → List ℕ → ℕ → List ℕ
+talliesBy f t h = pick (isRecord h) (set t (h - 1) (f (getD t (h - 1) 0))) t
+
+-- once the records have followed: who has lost a place has one less, and then who has got it one more
+abbrev pub followed : List ℕ → Handing → List ℕ
+followed t p = talliesBy raised (talliesBy lowered t (p .old)) (p .new)
+
+-- f was done to the book, once the records have followed, whatever their tallies were
+abbrev pub Puts : (Book → Book) → List ℕ → Counts → Handing → List ℕ → Type 0
+Puts f s c p s′ = (t : List ℕ) → length t ≡ records → bookOf s′ (followed t p) (p .counts) ≡ f (bookOf s t c)
+
+-- f was done to the book, and no record has to follow
+abbrev pub Gives : (Book → Book) → List ℕ → Counts → Counts → List ℕ → Type 0
+Gives f s c d s′ = (t : List ℕ) → length t ≡ records → bookOf s′ t d ≡ f (bookOf s t c)

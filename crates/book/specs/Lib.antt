@@ -1,6 +1,6 @@
 pub mod Book
+pub mod Watch
 pub mod Pass
 pub mod Sound
-pub mod Sizes
 pub mod Planning
 pub mod Promises

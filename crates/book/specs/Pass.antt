@@ -1,19 +1,14 @@
 -- Passing: the book at a slot, one slot on, and n slots on.
 -- Assumes nothing.
 use Prim.Native.Nat.{ℕ, _+_, _%_}
-use mathlib.Core.List.{List}
 use Rattle.laws.specs.Loops.{upto}
 use Rattle.limits.specs.Limits.{slotTimes}
-use Rattle.book.specs.declared.Standing.{Standing}
-use Rattle.book.specs.Book.{Book, bookOf, putAt}
+use Rattle.book.specs.Book.{Book, putAt}
 
 -- the book, and now: the place of the present slot
 pub record Moment : Type 0 where
   pub book : Book
   pub present : ℕ
-
-abbrev pub momentOf : List ℕ → List ℕ → Standing → Moment
-momentOf s t st = record { book = bookOf s t (st .counts); present = st .present }
 
 -- the present slot becomes free and now moves on by one; a now out of range is taken modulo its range
 unfoldable pub passed : Moment → Moment

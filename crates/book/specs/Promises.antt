@@ -1,21 +1,16 @@
 -- What is promised of the book, beyond what each operation's contract says. Proved in proofs/Soundness.antt, proofs/Once.antt and
--- proofs/Promised.antt.
+-- proofs/Releasing.antt.
 -- Assumes nothing.
 use Prim.Native.Nat.{ℕ, _+_, _≤_, _<_}
 use mathlib.Core.Path.{_≡_}
-use mathlib.Core.List.{List, [], _∷_}
-use lib.ListN.{length, replicate}
+use mathlib.Core.List.{List}
+use lib.ListN.{length, getD, replicate}
 use Rattle.laws.specs.Counting.{sum}
-use Rattle.laws.specs.Exactly.{Exactly}
 use Rattle.limits.specs.Limits.{slotTimes, records}
 use Rattle.book.specs.declared.Counts.{Counts}
-use Rattle.book.specs.declared.planning.Replanned.{Replanned}
-use Rattle.book.specs.declared.planning.Planned.{Planned}
-use Rattle.book.specs.declared.planning.Planned.the-variants.{Done}
 use Rattle.book.specs.Book.{Book, holders, bookOf, putAt, markAt, freeAt, released}
 use Rattle.book.specs.Pass.{Moment, passes}
 use Rattle.book.specs.Sound.{Sound}
-use Rattle.book.specs.Planning.{plannedNumber, planTests, planAnswer, Plans}
 
 -- ---- demand 3
 
@@ -42,20 +37,13 @@ ReleaseKeeps = (b : Book) (h k : ℕ) → k ≤ slotTimes → Sound b → Sound 
 abbrev pub PassKeeps : Type 0
 PassKeeps = (m : Moment) (n : ℕ) → Sound (m .book) → Sound (passes m n .book)
 
-abbrev pub PlanKeeps : Type 0
-PlanKeeps =
-    (s t : List ℕ) (c : Counts) (rate start : ℕ) (d : Replanned) (s′ t′ : List ℕ) → Sound (bookOf s t c)
-    → Plans s t c rate start (Done d) s′ t′ → Sound (bookOf s′ t′ (d .counts))
-
 -- free count, records' tallies and own tally make 20,250
 abbrev pub AllMakeTheWhole : Type 0
 AllMakeTheWhole = (s t : List ℕ) (c : Counts) → Sound (bookOf s t c) → c .free + sum t + c .own ≡ slotTimes
 
--- a new plan leaves no own mark
-abbrev pub PlanLeavesNone : Type 0
-PlanLeavesNone =
-    (s t : List ℕ) (c : Counts) (rate start : ℕ) (d : Replanned) (s′ t′ : List ℕ) → Sound (bookOf s t c)
-    → Plans s t c rate start (Done d) s′ t′ → d .counts .own ≡ 0
+-- a release leaves the holder nothing
+abbrev pub ReleaseLeavesNone : Type 0
+ReleaseLeavesNone = (b : Book) (h : ℕ) → 0 < h → h < holders → Sound b → getD (released h b slotTimes .tallies) h 0 ≡ 0
 
 -- ---- one answer
 
@@ -64,14 +52,3 @@ abbrev pub BookOnce : Type 0
 BookOnce =
     (s s′ t t′ : List ℕ) (c c′ : Counts) → length t ≡ records → length t′ ≡ records
     → bookOf s t c ≡ bookOf s′ t′ c′ → (s ≡ s′) × (t ≡ t′) × (c ≡ c′)
-
-abbrev pub PlanOnce : Type 0
-PlanOnce =
-    (s t : List ℕ) (c : Counts) (rate start : ℕ) (r r′ : Planned) (s₁ t₁ s₂ t₂ : List ℕ)
-    → Plans s t c rate start r s₁ t₁ → Plans s t c rate start r′ s₂ t₂ → (r ≡ r′) × (s₁ ≡ s₂) × (t₁ ≡ t₂)
-
--- each number is given exactly when
-abbrev pub PlanExactly : Type 0
-PlanExactly =
-    (s t : List ℕ) (c : Counts) (rate start : ℕ)
-    → Exactly (20 ∷ 30 ∷ []) plannedNumber (planTests s t rate start) (planAnswer s t c rate start)

@@ -1,9 +1,6 @@
-// A tally goes up or down by one. Promise: the tallies of all holders, as one list by the holder's number, change at that holder and nowhere
-// else; a tally stops at 0 and at 20,250, and a number that is no holder has none.
+// A tally goes up or down by one. Promise: it stops at 0 and at 20,250; of the counts only that of nobody, or our own, changes, if the holder is one of these.
 ghost use mathlib.Core.Path.{_≡_};
-ghost use lib.ListN.{length};
-ghost use Rattle.limits.specs.Limits.{records};
-ghost use Rattle.book.specs.Book.{raised, lowered, stepOf, wide, alter};
+ghost use Rattle.book.specs.Book.{raised, lowered, stepOf, countsBy};
 use crate::Counts;
 use crate::NONE;
 use crate::OWN;
@@ -12,14 +9,14 @@ use crate::OWN;
 const MOST: u16 = limits::SLOT_TIMES as u16;
 
 // One more, stopping there. A number above it stays.
-fn up(x: u16) -> u16
+pub fn up(x: u16) -> u16
     ensures { λ r. ⌜ r ≡ raised x ⌝ }
 {
     if x < MOST { x + 1 } else { x }
 }
 
 // One less, stopping at 0.
-fn down(x: u16) -> u16
+pub fn down(x: u16) -> u16
     ensures { λ r. ⌜ r ≡ lowered x ⌝ }
 {
     if x == 0 { 0 } else { x - 1 }
@@ -36,20 +33,14 @@ fn step(x: u16, more: bool) -> u16
 }
 
 // The holder h has one slot time more or less.
-pub fn change(tallies: &mut [u16], c: Counts, h: u16, more: bool) -> Counts
-    requires { ⌜ length (now tallies) ≡ records ⌝ }
-    ensures { λ r. ⌜ wide r (now (tallies .exit)) ≡ alter (stepOf more) (wide c (now (tallies .entry))) h ⌝ }
+fn counted(c: Counts, h: u16, more: bool) -> Counts
+    ensures { λ r. ⌜ r ≡ countsBy (stepOf more) c h ⌝ }
 {
     if h == NONE {
         return Counts {
             free: step(c.free, more),
             own: c.own,
         };
-    }
-    if h < OWN {
-        let k = (h - 1) as usize;
-        tallies[k] = step(tallies[k], more);
-        return c;
     }
     if h == OWN {
         return Counts {
@@ -58,4 +49,11 @@ pub fn change(tallies: &mut [u16], c: Counts, h: u16, more: bool) -> Counts
         };
     }
     c
+}
+
+// The old holder has one less, and then the new one has one more.
+pub fn handed(c: Counts, old: u16, new: u16) -> Counts
+    ensures { λ r. ⌜ r ≡ countsBy raised (countsBy lowered c old) new ⌝ }
+{
+    counted(counted(c, old, false), new, true)
 }

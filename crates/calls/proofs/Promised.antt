@@ -1,215 +1,173 @@
--- The public calls give one answer, and a call that is refused has changed nothing.
+-- The promises of specs/Promises.antt: each number exactly when, one answer, what a refusal keeps, and the slots that pass first.
 -- Assumes nothing.
 use mathlib.Core.Path.{_≡_, refl, sym, ap, _∙_}
 use mathlib.Core.Bool.{Bool, true, false}
-use mathlib.Core.List.{List, [], map}
-use Prim.Native.Nat.{ℕ}
-use borrow.Author.Tests.{eqb-true}
+use mathlib.Core.List.{List, [], _∷_}
+use Prim.Native.Nat.{ℕ, zero, suc, _+_}
+use native.Mathlib.Nat.{add-zero, add-suc}
+use native.Mathlib.Omega.{arith}
+use borrow.Author.Tests.{ne-eqb}
 use lib.Dec.{eqb}
-use lib.ListN.{length, replicate, length-map}
-use Rattle.laws.specs.Tests.{pick, both}
-use Rattle.laws.specs.Counting.{sum}
+use Rattle.laws.specs.Tests.{pick, either, ladder}
 use Rattle.laws.specs.Loops.{upto}
+use Rattle.laws.proofs.Tests.{never}
+use Rattle.laws.proofs.Ladder.{by-tests}
 use Rattle.limits.specs.Limits.{slotTimes, records}
 use Rattle.numbers.specs.declared.Refusal.{Refusal}
-use Rattle.numbers.specs.declared.Refusal.the-variants.{OtherLength}
-use Rattle.ship.specs.declared.Owned.{Owned}
-use Rattle.ship.specs.declared.Owned.the-variants.{Done as IsSet, Refused as NotSet}
-use Rattle.ship.specs.Ship.{ownAnswer}
-use Rattle.book.specs.declared.planning.Planned.{Planned}
-use Rattle.book.specs.declared.planning.Planned.the-variants.{Done as IsPlanned, Refused as NotPlanned}
-use Rattle.book.specs.Pass.{momentOf, passes}
-use Rattle.book.specs.Planning.{planAnswer, planLeft}
-use Rattle.book.proofs.Once.{tallies-back, counts-back}
-use Rattle.hearing.specs.declared.Telling.{Telling}
-use Rattle.hearing.specs.declared.Heard.{Heard}
-use Rattle.hearing.specs.declared.Heard.the-variants.{Done as IsHeard, Refused as NotHeard}
-use Rattle.hearing.specs.declared.Told.the-variants.{Station as Told, Refused as NotTold}
-use Rattle.hearing.specs.Hear.{listsOf, hearAnswer, hearLeft}
-use Rattle.choosing.specs.declared.Wanted.{Wanted}
-use Rattle.choosing.specs.declared.Chosen.{Chosen}
-use Rattle.choosing.specs.declared.Chosen.the-variants.{Done as IsChosen, Refused as NotChosen}
-use Rattle.choosing.specs.Choosing.{chooseAnswer, chooseLeft, listsOf as chooseLists}
-use Rattle.reporting.specs.declared.Reported.{Reported}
-use Rattle.reporting.specs.declared.Reported.the-variants.{Done as IsReported, Refused as NotReported}
-use Rattle.reporting.specs.Report.{reportAnswer}
-use Rattle.register.specs.declared.Station.{Station}
-use Rattle.register.specs.declared.Watch.{Watch}
-use Rattle.register.specs.declared.What.{What}
-use Rattle.register.specs.declared.What.the-variants.{Nothing, Hear, Plan, Own, Choose, Report, New, Sum}
-use Rattle.register.specs.Register.{tallyOf, wordOf, settle}
-use Rattle.register.specs.Sheet.{Out as Ended, settledBy, out}
-use Rattle.answering.specs.declared.Answer.the-variants.{Passed, Refused, Sum as Added}
-use Rattle.answering.specs.declared.Reply.{Reply}
-use Rattle.answering.specs.declared.Out.{Out}
-use Rattle.answering.specs.Answering.{
-  nothing,
-  outWith,
-  refusedOut,
-  standingOf,
-  watchWith,
-  begunOut,
-  heardOut,
-  plannedOut,
-  setOut,
-  ownOut,
-  chosenOut,
-  toldOut,
-  reportOut,
-  Core,
-  leaving,
-  newOut,
-  newBook,
-  passedOut,
-  leftHeard,
-  hearCore,
-  leftPlanned,
-  planCore,
-  ownCore,
-  leftChosen,
-  chooseCore,
-  reportCore,
-  sumOut,
-  coreBy,
-  First,
-  after,
-  firstOf,
-  agedCore,
-  coreAfter,
-  coreOf,
+use Rattle.numbers.specs.declared.Refusal.the-variants.{OtherLength, NotOwn}
+use Rattle.register.specs.declared.Answer.{Answer}
+use Rattle.register.specs.declared.Answer.the-variants.{Passed, Heard, Planned, Set, Chosen, Report as Reported, Refused, Begun, Sum as Summed}
+use Rattle.register.specs.State.{State, newState, passed, passes}
+use Rattle.register.specs.Answers.{Answered, answered, no, sized, givenNumber}
+use Rattle.reporting.specs.Report.{ownAt}
+use Rattle.hearing.specs.Hear.{hears, bookTests}
+use Rattle.choosing.specs.Choose.{drawTests, chooses}
+use Rattle.calls.specs.declared.What.{What}
+use Rattle.calls.specs.declared.What.the-variants.{Nothing}
+use Rattle.calls.specs.declared.told.Todo.{Todo}
+use Rattle.calls.specs.declared.told.Todo.the-variants as todo
+use Rattle.calls.specs.Calls.{passTests, pass, planned, planTests, plan, owning, ownTests, own, reportTests, reports, report, begin, sum, done, called}
+use Rattle.calls.specs.Told.{todoOf}
+use Rattle.calls.specs.Stages.{doneTodo}
+use Rattle.calls.specs.Promises.{
+  PassExactly,
+  PlanExactly,
+  OwnExactly,
+  ReportExactly,
+  BeginExactly,
+  SumExactly,
+  OneAnswer,
+  RefusedKeepsAll,
+  RefusedStillPasses,
+  PassesApart,
+  LengthsFirst,
 }
-use Rattle.calls.specs.Calls.{asked, unsized}
-use Rattle.calls.specs.Promises.{OneAnswer, RefusedKeepsAll}
-use Rattle.calls.proofs.Ageing.{all-stay}
+use Rattle.calls.proofs.Doing.{done-is, passes-keep, sized-alike}
+
+-- ---- exactly when
+
+pub pass-exactly : PassExactly
+unfolding pass
+pass-exactly s = by-tests (20 ∷ []) givenNumber (passTests s) (answered Passed s) refl tt refl
+
+pub plan-exactly : PlanExactly
+unfolding plan
+plan-exactly s p = by-tests (20 ∷ 30 ∷ []) givenNumber (planTests s p) (answered Planned (planned s p)) refl tt refl
+
+pub own-exactly : OwnExactly
+unfolding own
+own-exactly s o = by-tests (21 ∷ 30 ∷ []) givenNumber (ownTests s o) (answered Set (owning s o)) refl tt refl
+
+pub report-exactly : ReportExactly
+unfolding report
+report-exactly s t = by-tests (20 ∷ 31 ∷ 30 ∷ 36 ∷ []) givenNumber (reportTests s t) (reports s t) refl tt refl
+
+pub begin-exactly : BeginExactly
+unfolding begin
+begin-exactly s = by-tests (20 ∷ []) givenNumber (passTests s) (answered Begun (newState slotTimes records)) refl tt refl
+
+pub sum-exactly : SumExactly
+unfolding sum
+sum-exactly s = by-tests (20 ∷ []) givenNumber (passTests s) _ refl tt refl
+
+-- ---- one answer
 
 pub one-answer : OneAnswer
-one-answer x reg book r s reg₁ reg₂ book₁ book₂ e f = (e .answers ∙ sym (f .answers), e .leaves ∙ sym (f .leaves), e .writes ∙ sym (f .writes))
+one-answer x bytes reg book r s reg₁ reg₂ book₁ book₂ a b = (a .answers ∙ sym (b .answers), a .leaves ∙ sym (b .leaves), a .writes ∙ sym (b .writes))
 
--- ---- no slot passes first
+-- ---- a refusal
 
-none-first : (w : Watch) (n : ℕ) (us bs : List ℕ) → length us ≡ records
-    → firstOf w 0 n us bs ≡ record { gone = record { watch = w; passes = 0 }; tallies = us; slots = bs }
-unfolding firstOf upto
-none-first w n us bs size = go (both (eqb n records) (eqb (length bs) slotTimes))
+abbrev isRefusal : Answer → Bool
+isRefusal Passed = false
+isRefusal (Heard m) = false
+isRefusal Planned = false
+isRefusal Set = false
+isRefusal (Chosen c) = false
+isRefusal (Reported m) = false
+isRefusal (Refused r) = true
+isRefusal Begun = false
+isRefusal (Summed n) = false
+
+-- where it is a refusal, the state is s
+abbrev Kept : State → Answered → Type 0
+Kept s a = isRefusal (a .answer) ≡ true → a .state ≡ s
+
+-- what is given where a test does not hold has the state s
+abbrev Leaves : State → List (Bool × Answered) → Type 0
+Leaves s [] = Unit {0}
+Leaves s (t ∷ ts) = (t .1 .state ≡ s) × Leaves s ts
+
+kept-ladder : (s : State) (ts : List (Bool × Answered)) (x : Answered) → Leaves s ts → Kept s x → Kept s (ladder ts x)
+kept-ladder s [] x l k e = k e
+kept-ladder s ((true, y) ∷ ts) x l k e = kept-ladder s ts x (l .1) k e
+kept-ladder s ((false, y) ∷ ts) x l k e = l .0
+
+-- what is left to be done, where it is refused
+kept-todo : (t : Todo) (s : State) → Kept s (doneTodo t s)
+unfolding doneTodo
+kept-todo (todo.Refused r) s e = refl
+kept-todo todo.Nothing s e = refl
+kept-todo (todo.Hear x) s e = kept-ladder s (bookTests s x) (hears s x) (refl, (refl, tt)) (λ z. never z) e
+kept-todo (todo.Plan p) s e = never e
+kept-todo (todo.Own o) s e = never e
+kept-todo (todo.Choose a) s e = kept-ladder s (drawTests s a) (chooses s a) (refl, (refl, (refl, (refl, tt)))) (λ z. never z) e
+kept-todo (todo.Report t) s e = kept-ladder s ((ownAt (s .book) (s .watch .present) 0, no s NotOwn) ∷ []) (reports s t) (refl, tt) (λ z. refl) e
+kept-todo todo.New s e = never e
+kept-todo todo.Sum s e = refl
+
+kept : (s : State) (bytes : List ℕ) (q : What) (n : Refusal) → done q s bytes .answer ≡ Refused n → done q s bytes .state ≡ s
+kept s bytes q n e =
+    let is = done-is q s bytes in
+    let t = todoOf (sized s) (s .watch) bytes q in
+    ap (λ (a : Answered). a .state) is ∙ kept-todo t s (ap (λ (a : Answered). isRefusal (a .answer)) (sym is) ∙ ap isRefusal e)
+
+pub refused-keeps : RefusedKeepsAll
+unfolding called upto
+refused-keeps s bytes q n e = kept s bytes q n e
+
+-- slots that pass leave the state that they leave, be the lengths what they are
+pass-state : (s : State) → pass s .state ≡ s
+unfolding pass
+pass-state s = by (sized s)
   where
-    left : First
-    left = record { gone = record { watch = w; passes = 0 }; tallies = us; slots = bs }
+    by : (b : Bool) → ladder ((b, no s OtherLength) ∷ []) (answered Passed s) .state ≡ s
+    by true = refl
+    by false = refl
 
-    go : (t : Bool) → pick t (after w 0 (passes (momentOf bs us (standingOf w)) 0)) left ≡ left
-    go true = λ i. record {
-      gone = record { watch = watchWith w (record { counts = counts-back bs us (w .channel .counts) size i; present = w .present }); passes = 0 };
-      tallies = tallies-back bs us (w .channel .counts) size i;
-      slots = bs;
-    }
-    go false = refl
+pub refused-passes : RefusedStillPasses
+unfolding called
+refused-passes s k bytes q n = by (either (eqb k 0) (sized s))
+  where
+    by : (b : Bool) → pick b (done q (passes s k) bytes) (no s OtherLength) .answer ≡ Refused n
+        → pick b (done q (passes s k) bytes) (no s OtherLength) .state ≡ pick b (pass (passes s k)) (no s OtherLength) .state
+    by true e = kept (passes s k) bytes q n e ∙ sym (pass-state (passes s k))
+    by false e = refl
 
--- ---- a core that refuses
+-- ---- slots that pass first
 
--- that a core, if it refuses, has changed nothing
-abbrev KeepsAll : Watch → List ℕ → List ℕ → List ℕ → Core → Type 0
-KeepsAll w us vs bs k = (r : Refusal) → k .answer .answer ≡ Refused r → k ≡ leaving (refusedOut w r) us vs bs
+passes-add : (s : State) (j k : ℕ) → passes s (j + k) ≡ passes (passes s j) k
+unfolding upto
+passes-add s j zero = ap (passes s) (add-zero j)
+passes-add s j (suc k) = ap (passes s) (add-suc j k) ∙ ap passed (passes-add s j k)
 
-module _ (w : Watch) (us vs bs : List ℕ) where
-  refused-so : (n : Refusal) → KeepsAll w us vs bs (leaving (refusedOut w n) us vs bs)
-  refused-so n r e = ap (λ (m : Refusal). leaving (refusedOut w m) us vs bs) (let same : n ≡ r = cc in same)
+-- with its lengths a call is what it does once the slots have passed
+called-sized : (s : State) (n : ℕ) (bytes : List ℕ) (q : What) → sized s ≡ true → called s n bytes q ≡ done q (passes s n) bytes
+unfolding called
+called-sized s n bytes q e = ap (λ (b : Bool). pick (either (eqb n 0) b) (done q (passes s n) bytes) (no s OtherLength)) e ∙ by (eqb n 0)
+  where
+    by : (b : Bool) → pick (either b true) (done q (passes s n) bytes) (no s OtherLength) ≡ done q (passes s n) bytes
+    by true = refl
+    by false = refl
 
-  -- by a test
-  core-by : (t : Bool) (k : Core) (n : Refusal) → KeepsAll w us vs bs k → KeepsAll w us vs bs (pick t k (leaving (refusedOut w n) us vs bs))
-  core-by true k n h = h
-  core-by false k n h = refused-so n
+pub passes-apart : PassesApart
+passes-apart s j k bytes q e =
+    let t = passes s j in
+    let there : called s j bytes Nothing .state ≡ t = ap (λ (a : Answered). a .state) (called-sized s j bytes Nothing e) ∙ pass-state t in
+    called-sized s (j + k) bytes q e
+    ∙ ap (λ (u : State). done q u bytes) (passes-add s j k)
+    ∙ sym (called-sized t k bytes q (sized-alike s t (passes-keep s j) ∙ e))
+    ∙ ap (λ (u : State). called u k bytes q) (sym there)
 
-  out-by : (t : Bool) (o : Out) (n : Refusal) → KeepsAll w us vs bs (leaving o us vs bs)
-      → KeepsAll w us vs bs (leaving (pick t o (refusedOut w n)) us vs bs)
-  out-by true o n h = h
-  out-by false o n h = refused-so n
-
-  -- by what the book's own operation gave back
-  hear-by : (x : Telling) (h : Heard) → KeepsAll w us vs bs (leftHeard w x h (hearLeft (listsOf bs us vs) (standingOf w) (Told x) h))
-  unfolding heardOut
-  hear-by x (IsHeard h) = λ r e. cc
-  hear-by x (NotHeard n) = refused-so n
-
-  plan-by : (h : Planned) → KeepsAll w us vs bs (leftPlanned w vs h (planLeft bs us (w .channel .counts) h))
-  unfolding plannedOut
-  plan-by (IsPlanned d) = λ r e. cc
-  plan-by (NotPlanned n) = refused-so n
-
-  own-by : (h : Owned) → KeepsAll w us vs bs (leaving (ownOut w h) us vs bs)
-  unfolding setOut
-  own-by (IsSet s) = λ r e. cc
-  own-by (NotSet n) = refused-so n
-
-  choose-by : (a : Wanted) (h : Chosen)
-      → KeepsAll w us vs bs (leftChosen w h (chooseLeft (chooseLists bs us vs) (standingOf w) (w .channel .plan) a h))
-  unfolding chosenOut
-  choose-by a (IsChosen c) = λ r e. cc
-  choose-by a (NotChosen n) = refused-so n
-
-  report-by : (h : Reported) → KeepsAll w us vs bs (leaving (reportOut w h) us vs bs)
-  unfolding toldOut
-  report-by (IsReported m) = λ r e. cc
-  report-by (NotReported n) = refused-so n
-
-  new-by : (t : Bool) (fresh : List ℕ) → KeepsAll w us vs bs (leaving (pick t begunOut (refusedOut w OtherLength)) us vs (pick t fresh bs))
-  unfolding begunOut
-  new-by true fresh = λ r e. cc
-  new-by false fresh = refused-so OtherLength
-
-  -- by what is asked
-  core-keeps : (q : What) (n : ℕ) → KeepsAll w us vs bs (coreBy q w n us vs bs)
-  unfolding passedOut hearCore planCore ownCore chooseCore reportCore newOut newBook sumOut
-  core-keeps Nothing n = out-by (both (eqb n records) (eqb (length bs) slotTimes)) (outWith nothing w Passed) OtherLength (λ r e. cc)
-  core-keeps (Hear (Told x)) n =
-      core-by (eqb n records) _ OtherLength (hear-by x (hearAnswer (listsOf bs us vs) (standingOf w) (w .ship .source) (Told x)))
-  core-keeps (Hear (NotTold r)) n = refused-so r
-  core-keeps (Plan q) n = core-by (eqb n records) _ OtherLength (plan-by (planAnswer bs us (w .channel .counts) (q .rate) (q .start)))
-  core-keeps (Own s) n = own-by (ownAnswer (s .source) (s .latitude) (s .longitude))
-  core-keeps (Choose a) n =
-      core-by (eqb n records) _ OtherLength (choose-by a (chooseAnswer (chooseLists bs us vs) (standingOf w) (w .channel .plan) a))
-  core-keeps (Report t) n = out-by (eqb n records) _ OtherLength (report-by (reportAnswer bs us (w .present) (w .channel .plan) t))
-  core-keeps New n = new-by (both (eqb n records) (eqb (length bs) slotTimes)) (replicate slotTimes 0)
-  core-keeps Sum n = out-by (both (eqb n records) (eqb (length bs) slotTimes)) (outWith nothing w (Added (sum us))) OtherLength (λ r e. cc)
-
--- ---- a call that refuses
-
-module _ (w : Watch) (q : What) (reg : List Station) (book : List ℕ) where
-  abbrev us : List ℕ
-  us = map (tallyOf (asked w 0 q)) reg
-
-  abbrev vs : List ℕ
-  vs = map (wordOf (asked w 0 q)) reg
-
-  abbrev core : Core
-  core = coreOf (asked w 0 q) (length reg) us vs book
-
-  -- of a register of 255 records
-  core-left : (n : Refusal) → length reg ≡ records → core .answer .answer ≡ Refused n → core ≡ leaving (refusedOut w n) us vs book
-  unfolding coreOf
-  core-left n size e =
-      let is : core ≡ agedCore 0 (coreBy q w (length reg) us vs book) =
-      ap (coreAfter (asked w 0 q) (length reg) vs) (none-first w (length reg) us book (length-map reg (tallyOf (asked w 0 q)) ∙ size)) in
-      is ∙ ap (agedCore 0) (core-keeps w us vs book q (length reg) n (sym (ap (λ (k : Core). k .answer .answer) is) ∙ e))
-
-  -- of another one
-  watch-left : (n : Refusal) → unsized (asked w 0 q) .answer ≡ Refused n → unsized (asked w 0 q) .watch ≡ w
-  unfolding coreOf firstOf
-  watch-left n e = ap (λ (k : Core). k .answer .watch) (core-keeps w [] [] [] q 0 n e)
-
-  abbrev ends : Bool → Ended Reply (List ℕ)
-  ends t =
-      pick t (out (core .answer) (settledBy (settle (core .order)) (core .left) (core .right) reg) (core .book))
-      (out (unsized (asked w 0 q)) reg book)
-
-  by-length : (n : Refusal) (t : Bool) → eqb (length reg) records ≡ t → ends t .answer .answer ≡ Refused n
-      → (ends t .reg ≡ reg) × (ends t .book ≡ book) × (ends t .answer .watch ≡ w)
-  by-length n true is e =
-      let size = eqb-true (length reg) records is in
-      let left = core-left n size e in (
-        ap (λ (k : Core). settledBy (settle (k .order)) (k .left) (k .right) reg) left ∙ all-stay (asked w 0 q) reg vs size,
-        ap (λ (k : Core). k .book) left,
-        ap (λ (k : Core). k .answer .watch) left,
-      )
-  by-length n false is e = (refl, refl, watch-left n e)
-
-pub refused-keeps-all : RefusedKeepsAll
-refused-keeps-all w q reg book n = by-length w q reg book n (eqb (length reg) records) refl
+pub lengths-first : LengthsFirst
+unfolding called
+lengths-first s n bytes q e h = rw (ne-eqb n 0 (λ z. omega (arith, z, h)), e)

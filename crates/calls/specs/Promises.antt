@@ -1,51 +1,76 @@
--- What is promised of the public calls, beyond what each contract says. Proved in proofs/Promised.antt and proofs/Passing.antt.
+-- What is promised of the public calls, beyond what the contract of `call` says. Proved in proofs/Promised.antt.
 -- Assumes nothing.
-use Prim.Native.Nat.{ℕ, _+_}
+use Prim.Native.Nat.{ℕ, _+_, _<_}
 use mathlib.Core.Path.{_≡_}
-use mathlib.Core.List.{List}
+use mathlib.Core.Bool.{true, false}
+use mathlib.Core.List.{List, [], _∷_}
+use Rattle.laws.specs.Exactly.{Exactly}
 use Rattle.numbers.specs.declared.Refusal.{Refusal}
-use Rattle.register.specs.declared.Station.{Station}
-use Rattle.register.specs.declared.Watch.{Watch}
-use Rattle.register.specs.declared.What.{What}
-use Rattle.register.specs.declared.What.the-variants.{Nothing}
-use Rattle.register.specs.declared.Ask.{Ask}
-use Rattle.register.specs.Sheet.{Out, Ends}
-use Rattle.answering.specs.declared.Reply.{Reply}
-use Rattle.answering.specs.declared.Answer.the-variants.{Refused}
-use Rattle.calls.specs.Calls.{asked, callOf}
+use Rattle.numbers.specs.declared.Refusal.the-variants.{OtherLength}
+use Rattle.plan.specs.declared.Plan.{Plan}
+use Rattle.ship.specs.declared.Station.{Station}
+use Rattle.ship.specs.declared.Ship.{Ship}
+use Rattle.walks.specs.Out.{Ends}
+use Rattle.register.specs.declared.Reply.{Reply}
+use Rattle.register.specs.declared.Answer.the-variants.{Refused}
+use Rattle.register.specs.State.{State, stateOf}
+use Rattle.register.specs.Answers.{no, outOf, sized, givenNumber}
+use Rattle.reporting.specs.declared.Time.{Time}
+use Rattle.calls.specs.declared.Ask.{Ask}
+use Rattle.calls.specs.declared.What.{What}
+use Rattle.calls.specs.declared.What.the-variants.{Nothing}
+use Rattle.calls.specs.Calls.{passTests, pass, planTests, plan, ownTests, own, reportTests, report, begin, sum, called}
+
+-- ---- each number is given exactly when; those of hearing and choosing stand with these
+
+abbrev pub PassExactly : Type 0
+PassExactly = (s : State) → Exactly (20 ∷ []) givenNumber (passTests s) (pass s)
+
+abbrev pub PlanExactly : Type 0
+PlanExactly = (s : State) (p : Plan) → Exactly (20 ∷ 30 ∷ []) givenNumber (planTests s p) (plan s p)
+
+abbrev pub OwnExactly : Type 0
+OwnExactly = (s : State) (o : Ship) → Exactly (21 ∷ 30 ∷ []) givenNumber (ownTests s o) (own s o)
+
+abbrev pub ReportExactly : Type 0
+ReportExactly = (s : State) (t : Time) → Exactly (20 ∷ 31 ∷ 30 ∷ 36 ∷ []) givenNumber (reportTests s t) (report s t)
+
+abbrev pub BeginExactly : Type 0
+BeginExactly = (s : State) → Exactly (20 ∷ []) givenNumber (passTests s) (begin s)
+
+abbrev pub SumExactly : Type 0
+SumExactly = (s : State) → Exactly (20 ∷ []) givenNumber (passTests s) (sum s)
+
+-- ---- one answer
 
 -- two answers and contents that meet the contract at the same input are equal
 abbrev pub OneAnswer : Type 0
-OneAnswer = (x : Ask) (reg : List Station) (book : List ℕ) (r s : Reply) (reg₁ reg₂ : List Station) (book₁ book₂ : List ℕ)
-    → Ends (callOf x reg book) r reg₁ book₁ → Ends (callOf x reg book) s reg₂ book₂ → (r ≡ s) × (reg₁ ≡ reg₂) × (book₁ ≡ book₂)
+OneAnswer =
+    (x : Ask) (bytes : List ℕ) (reg : List Station) (book : List ℕ) (r s : Reply) (reg₁ reg₂ : List Station) (book₁ book₂ : List ℕ)
+    → Ends (outOf (called (stateOf reg book (x .watch)) (x .passes) bytes (x .what))) r reg₁ book₁
+    → Ends (outOf (called (stateOf reg book (x .watch)) (x .passes) bytes (x .what))) s reg₂ book₂
+    → (r ≡ s) × (reg₁ ≡ reg₂) × (book₁ ≡ book₂)
+
+-- ---- a refusal
 
 -- a call that is refused has changed nothing: no record, no slot, nothing of the watch
 abbrev pub RefusedKeepsAll : Type 0
-RefusedKeepsAll = (w : Watch) (q : What) (reg : List Station) (book : List ℕ) (n : Refusal)
-    → callOf (asked w 0 q) reg book .answer .answer ≡ Refused n
-    → (callOf (asked w 0 q) reg book .reg ≡ reg) × (callOf (asked w 0 q) reg book .book ≡ book) × (callOf (asked w 0 q) reg book .answer .watch ≡ w)
-
--- a call on what another one left
-abbrev pub thenAsked : Out Reply (List ℕ) → ℕ → What → Out Reply (List ℕ)
-thenAsked o k q = callOf (asked (o .answer .watch) k q) (o .reg) (o .book)
-
--- of the slots that pass first, any number may pass in a call of their own before
-abbrev pub PassesApart : Type 0
-PassesApart = (w : Watch) (j k : ℕ) (q : What) (reg : List Station) (book : List ℕ)
-    → callOf (asked w (j + k) q) reg book ≡ thenAsked (callOf (asked w j Nothing) reg book) k q
-
--- all of them: slots that pass first are a call of their own
-abbrev pub PassesFirst : Type 0
-PassesFirst = (w : Watch) (k : ℕ) (q : What) (reg : List Station) (book : List ℕ)
-    → callOf (asked w k q) reg book ≡ thenAsked (callOf (asked w k Nothing) reg book) 0 q
-
--- where nothing follows: j and then k slots that pass are j + k, so n are n times one
-abbrev pub PassesAdd : Type 0
-PassesAdd = (w : Watch) (j k : ℕ) (reg : List Station) (book : List ℕ)
-    → callOf (asked w (j + k) Nothing) reg book ≡ thenAsked (callOf (asked w j Nothing) reg book) k Nothing
+RefusedKeepsAll = (s : State) (bytes : List ℕ) (q : What) (n : Refusal) → called s 0 bytes q .answer ≡ Refused n → called s 0 bytes q .state ≡ s
 
 -- a call that is refused after k slots has let them pass and done nothing else
 abbrev pub RefusedStillPasses : Type 0
-RefusedStillPasses = (w : Watch) (k : ℕ) (q : What) (reg : List Station) (book : List ℕ) (n : Refusal)
-    → let o = callOf (asked w k q) reg book in let p = callOf (asked w k Nothing) reg book in
-    o .answer .answer ≡ Refused n → (o .reg ≡ p .reg) × (o .book ≡ p .book) × (o .answer .watch ≡ p .answer .watch)
+RefusedStillPasses =
+    (s : State) (k : ℕ) (bytes : List ℕ) (q : What) (n : Refusal) → called s k bytes q .answer ≡ Refused n
+    → called s k bytes q .state ≡ called s k bytes Nothing .state
+
+-- ---- slots that pass first
+
+-- of the slots that pass first, any number may pass in a call of their own before
+abbrev pub PassesApart : Type 0
+PassesApart =
+    (s : State) (j k : ℕ) (bytes : List ℕ) (q : What) → sized s ≡ true
+    → called s (j + k) bytes q ≡ called (called s j bytes Nothing .state) k bytes q
+
+-- where a length is another one no slot passes, and that is the answer, whatever follows
+abbrev pub LengthsFirst : Type 0
+LengthsFirst = (s : State) (n : ℕ) (bytes : List ℕ) (q : What) → sized s ≡ false → 0 < n → called s n bytes q ≡ no s OtherLength

@@ -8,11 +8,9 @@ use lib.Dec.{eqb, ltb}
 use borrow.Author.Tests.{eq-eqb, ne-eqb, lt-ltb, le-ltb}
 use native.Mathlib.Numerals.{add-one}
 use Rattle.laws.specs.Tests.{pick}
-use Rattle.laws.specs.Counting.{one}
-use Rattle.laws.proofs.Ranges.{many-none, many-more, many-le}
 use Rattle.candidates.specs.declared.rounds.Best.{Best}
-use Rattle.candidates.specs.Window.{isFree, free}
 use Rattle.candidates.specs.Rounds.{aboveAll, keyOf, keys, cap, below, cutOf, betterOf, BestIn, cutAfter}
+use Rattle.candidates.specs.Scanning.{noneYet}
 use Rattle.candidates.proofs.Ranking.{key-small, key-apart}
 use Rattle.candidates.proofs.Cuts.{cap-under, cap-over, below-lt, below-none, below-max, below-found}
 
@@ -83,10 +81,10 @@ cut-none : (f : ℕ → ℕ) (k : ℕ) → 0 ≡ cutOf f 0 (suc k)
 unfolding cutOf below
 cut-none f k = refl
 
-pub best-none : (ws : ℕ → ℕ) → BestIn ws 0 (record { free = 0; first = 0; second = 0; third = 0; fourth = 0 })
-unfolding free
+pub best-none : (ws : ℕ → ℕ) → BestIn ws 0 noneYet
+unfolding noneYet
 best-none ws =
-    record { frees = many-none _; one = cut-none (keys ws) 0; two = cut-none (keys ws) 1; three = cut-none (keys ws) 2; four = cut-none (keys ws) 3 }
+    record { one = cut-none (keys ws) 0; two = cut-none (keys ws) 1; three = cut-none (keys ws) 2; four = cut-none (keys ws) 3 }
 
 -- one slot more
 module _ (ws : ℕ → ℕ) (i : ℕ) (b : Best) (inside : i < 512) (h : BestIn ws i b) where
@@ -100,10 +98,9 @@ module _ (ws : ℕ → ℕ) (i : ℕ) (b : Best) (inside : i < 512) (h : BestIn 
       different j l e = omega arith
 
   best-more : BestIn ws (i + 1) (betterOf b (ws i) i)
-  unfolding betterOf free
+  unfolding betterOf
   best-more =
       record {
-        frees = many-more (λ j. isFree (ws j)) i (b .free) (one (isFree (ws i))) (h .frees) refl;
         one = omega (arith, h .one, next 0, none (keys ws) i, key-small (ws i) i);
         two = omega (arith, h .one, h .two, next 1);
         three = omega (arith, h .two, h .three, next 2);
@@ -115,11 +112,10 @@ module _ (ws : ℕ → ℕ) (i : ℕ) (b : Best) (inside : i < 512) (h : BestIn 
   best-next w r e q = subst (BestIn ws (i + 1)) (sym (q ∙ ap (λ (x : ℕ). betterOf b x i) e)) best-more
 
 -- a slot without a key leaves the keys
-pub better-none : (b : Best) (w i t : ℕ) → t ≡ one (isFree w) → keyOf w i ≡ 0
-    → _≡_ {A = Best} (record { free = b .free + t; first = b .first; second = b .second; third = b .third; fourth = b .fourth }) (betterOf b w i)
+pub better-none : (b : Best) (w i : ℕ) → keyOf w i ≡ 0 → b ≡ betterOf b w i
 unfolding betterOf
-better-none b w i t e z =
-    λ j. record { free = b .free + e j; first = same (b .first) j; second = keep (b .second) (b .first) j; third = keep (b .third) (b .second) j; fourth = keep (b .fourth) (b .third) j }
+better-none b w i z =
+    λ j. record { first = same (b .first) j; second = keep (b .second) (b .first) j; third = keep (b .third) (b .second) j; fourth = keep (b .fourth) (b .third) j }
   where
     same : (x : ℕ) → x ≡ max x (keyOf w i)
     same x = omega (arith, z)
@@ -127,19 +123,11 @@ better-none b w i t e z =
     keep : (x y : ℕ) → x ≡ max x (min y (keyOf w i))
     keep x y = omega (arith, z)
 
--- no more are free than there are
-pub free-most : (ws : ℕ → ℕ) (i : ℕ) (b : Best) → BestIn ws i b → b .free ≤ i
-unfolding free
-free-most ws i b h = omega (arith, h .frees, many-le (λ j. isFree (ws j)) i)
-
--- the cut is that after as many rounds as slots are needed beside the free ones
-pub cut-is : (ws : ℕ → ℕ) (n : ℕ) (b : Best) → BestIn ws n b → cutAfter b ≡ cutOf (keys ws) n (4 - b .free)
+-- the cut is that after as many rounds as slots are needed beside f free ones
+pub cut-is : (ws : ℕ → ℕ) (n f : ℕ) (b : Best) → BestIn ws n b → cutAfter f b ≡ cutOf (keys ws) n (4 - f)
 unfolding cutAfter
-cut-is ws n b h = go (decLt 3 (b .free)) (ℕ-discrete (b .free) 3) (ℕ-discrete (b .free) 2) (ℕ-discrete (b .free) 1)
+cut-is ws n f b h = go (decLt 3 f) (ℕ-discrete f 3) (ℕ-discrete f 2) (ℕ-discrete f 1)
   where
-    f : ℕ
-    f = b .free
-
     by : (x k : ℕ) → x ≡ cutOf (keys ws) n k → k ≡ 4 - f → x ≡ cutOf (keys ws) n (4 - f)
     by x k e q = e ∙ ap (cutOf (keys ws) n) q
 

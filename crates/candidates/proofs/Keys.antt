@@ -1,26 +1,16 @@
--- The tests of the small functions: what is free, the key of a slot, and whether it reaches the cut.
+-- The key of a slot by the tests of the code, and the slot that a key ends in.
 -- Assumes nothing.
-use mathlib.Core.Path.{_≡_, refl, sym, _∙_}
-use mathlib.Core.Bool.{Bool, true, false}
-use Prim.Native.Nat.{ℕ, _+_, _-_, _*_, _≤_, _<_}
+use mathlib.Core.Path.{_≡_, sym}
+use mathlib.Core.Bool.{true, false}
+use Prim.Native.Nat.{ℕ, _+_, _-_, _*_, _%_, _≤_, _<_}
 use native.Mathlib.Omega.{arith}
-use lib.Dec.{eqb, leb}
-use borrow.Author.Tests.{eq-eqb, ne-eqb, le-leb, lt-leb}
-use Rattle.laws.specs.Tests.{both, either}
-use Rattle.laws.specs.Counting.{one}
-use Rattle.candidates.specs.Window.{top, isFree, isAvailable}
-use Rattle.candidates.specs.Rounds.{keyOf, within}
-use Rattle.laws.proofs.Sums.{one-true, one-false}
-use Rattle.candidates.proofs.Ranking.{avail-yes, avail-zero, avail-big, key-avail, key-not, key-some}
-
--- free exactly at the worth top
-pub free-yes : (w : ℕ) → w ≡ top → 1 ≡ one (isFree w)
-unfolding isFree
-free-yes w e = sym (one-true (eq-eqb w top e))
-
-pub free-no : (w : ℕ) → (w ≡ top → ⊥) → 0 ≡ one (isFree w)
-unfolding isFree
-free-no w e = sym (one-false (ne-eqb w top e))
+use lib.Dec.{eqb}
+use borrow.Author.Tests.{lt-ltb, le-ltb}
+use Rattle.distance.specs.Distance.{top}
+use Rattle.candidates.specs.declared.rounds.Best.{Best}
+use Rattle.candidates.specs.Rounds.{keyOf}
+use Rattle.candidates.specs.Scanning.{keyHits, reusedBy}
+use Rattle.candidates.proofs.Ranking.{avail-yes, avail-zero, avail-big, key-avail, key-not}
 
 -- the key by the tests of the code: worth 0, below top, top or more
 pub key-zero : (w i : ℕ) → w ≡ 0 → 0 ≡ keyOf w i
@@ -32,35 +22,53 @@ key-mid w i p l = sym (key-avail w i (avail-yes w p l))
 pub key-big : (w i : ℕ) → 0 < w → top ≤ w → 0 ≡ keyOf w i
 key-big w i p l = sym (key-not w i (avail-big w p l))
 
-module _ (c w i : ℕ) where
-  -- by the tests of the code: free
-  pub within-free : w ≡ top → 1 ≡ one (within c w i)
-  unfolding within isFree
-  within-free e = sym (one-true (simp (eq-eqb w top e)))
+-- ---- whether a slot is that of a key
 
-  module _ (held : w ≡ top → ⊥) (k : ℕ) (is : k ≡ keyOf w i) where
-    -- .. not available
-    pub within-not : k ≡ 0 → 0 ≡ one (within c w i)
-    unfolding within isFree
-    within-not e = sym (one-false (go (isAvailable w) refl))
-      where
-        go : (b : Bool) → isAvailable w ≡ b → either (eqb w top) (both (isAvailable w) (leb c (keyOf w i))) ≡ false
-        go true q = absurd (omega (arith, key-some w i q))
-        go false q = simp (ne-eqb w top held, q)
+pub hits-none : (k i : ℕ) → k ≡ 0 → false ≡ keyHits k i
+unfolding keyHits
+hits-none k i e = simp (le-ltb 0 k (omega arith))
 
-    module _ (some : k ≡ 0 → ⊥) where
-      -- .. available: then the key decides
-      avail : isAvailable w ≡ true
-      avail = go (isAvailable w) refl
-        where
-          go : (b : Bool) → isAvailable w ≡ b → isAvailable w ≡ true
-          go true q = q
-          go false q = absurd (some (is ∙ key-not w i q))
+pub hits-some : (k i : ℕ) → (k ≡ 0 → ⊥) → eqb (511 - k % 512) i ≡ keyHits k i
+unfolding keyHits
+hits-some k i p = simp (lt-ltb 0 k (omega (arith, p)))
 
-      pub within-low : k < c → 0 ≡ one (within c w i)
-      unfolding within isFree
-      within-low l = sym (one-false (simp (ne-eqb w top held, avail, lt-leb c (keyOf w i) (omega arith))))
+-- ---- whether a slot is one of the best, by the tests of the code
 
-      pub within-high : c ≤ k → 1 ≡ one (within c w i)
-      unfolding within isFree
-      within-high l = sym (one-true (simp (ne-eqb w top held, avail, le-leb c (keyOf w i) (omega arith))))
+module _ (f : ℕ) (b : Best) (i : ℕ) where
+  pub over-3 : 3 < f → false ≡ reusedBy f b i
+  unfolding reusedBy
+  over-3 l = simp (lt-ltb 3 f l)
+
+  module _ (l₃ : f ≤ 3) where
+    pub hit-1 : keyHits (b .first) i ≡ true → true ≡ reusedBy f b i
+    unfolding reusedBy
+    hit-1 e = simp (le-ltb 3 f l₃, e)
+
+    module _ (h₁ : keyHits (b .first) i ≡ false) where
+      pub over-2 : 2 < f → false ≡ reusedBy f b i
+      unfolding reusedBy
+      over-2 l = simp (le-ltb 3 f l₃, h₁, lt-ltb 2 f l)
+
+      module _ (l₂ : f ≤ 2) where
+        pub hit-2 : keyHits (b .second) i ≡ true → true ≡ reusedBy f b i
+        unfolding reusedBy
+        hit-2 e = simp (le-ltb 3 f l₃, h₁, le-ltb 2 f l₂, e)
+
+        module _ (h₂ : keyHits (b .second) i ≡ false) where
+          pub over-1 : 1 < f → false ≡ reusedBy f b i
+          unfolding reusedBy
+          over-1 l = simp (le-ltb 3 f l₃, h₁, le-ltb 2 f l₂, h₂, lt-ltb 1 f l)
+
+          module _ (l₁ : f ≤ 1) where
+            pub hit-3 : keyHits (b .third) i ≡ true → true ≡ reusedBy f b i
+            unfolding reusedBy
+            hit-3 e = simp (le-ltb 3 f l₃, h₁, le-ltb 2 f l₂, h₂, le-ltb 1 f l₁, e)
+
+            module _ (h₃ : keyHits (b .third) i ≡ false) where
+              pub over-0 : 0 < f → false ≡ reusedBy f b i
+              unfolding reusedBy
+              over-0 l = simp (le-ltb 3 f l₃, h₁, le-ltb 2 f l₂, h₂, le-ltb 1 f l₁, h₃, lt-ltb 0 f l)
+
+              pub hit-4 : f ≤ 0 → keyHits (b .fourth) i ≡ reusedBy f b i
+              unfolding reusedBy
+              hit-4 l = simp (le-ltb 3 f l₃, h₁, le-ltb 2 f l₂, h₂, le-ltb 1 f l₁, h₃, le-ltb 0 f l)

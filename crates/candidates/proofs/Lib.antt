@@ -3,7 +3,13 @@ pub mod Ranking
 pub mod Four
 pub mod Draws
 pub mod Keys
+pub mod Cutting
 pub mod Slots
+pub mod Gathering
 pub mod Listing
+pub mod Data
+pub mod Loops
+pub mod Levels
+pub mod Sameness
 pub mod Promised
 pub mod Examples

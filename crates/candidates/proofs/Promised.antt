@@ -1,26 +1,23 @@
 -- What is promised of the choice (specs/Promises.antt), but the marked examples.
 -- Assumes nothing.
 use mathlib.Core.Path.{_≡_, refl, sym, ap, _∙_}
-use mathlib.Core.Bool.{Bool, true, false}
-use mathlib.Core.List.{List}
-use Prim.Native.Nat.{ℕ, suc, _+_, _-_, _*_, _%_, _≤_, _<_}
+use mathlib.Core.Bool.{true}
+use Prim.Native.Nat.{ℕ, _+_, _-_, _*_, _%_, _≤_, _<_}
 use native.Mathlib.Nat.{mod-lt}
 use native.Mathlib.Decide.{ℕ-discrete}
 use native.Mathlib.Omega.{arith}
 use lib.ListN.{length, getD}
 use lib.Dec.{ltb}
 use borrow.Author.Tests.{eq-eqb, ne-eqb, ltb-true}
-use Rattle.laws.proofs.Ranges.{least-le}
-use Rattle.laws.specs.Tests.{pick, both, either}
-use Rattle.laws.specs.Ranges.{some, every}
+use Rattle.laws.specs.Tests.{both, either}
 use Rattle.candidates.specs.declared.SlotState.{SlotState}
-use Rattle.candidates.specs.declared.SlotState.the-variants.{Own, Earlier, Free, Far, Barred}
+use Rattle.candidates.specs.declared.SlotState.the-variants.{Own, Earlier, Free, OwnUnknown, Base, Unknown, HeldOff, Far}
 use Rattle.candidates.specs.declared.Window.{Window}
 use Rattle.candidates.specs.declared.Picked.{Picked}
-use Rattle.candidates.specs.declared.Picked.the-variants.{At, NoCandidate, SentBack}
-use Rattle.distance.specs.Distance.{never}
-use Rattle.candidates.specs.Slot.{frame, isNone, isOwn, gap, reusable, earlier, stateOf}
-use Rattle.candidates.specs.Window.{top, worth, isFree, isAvailable, free, rank, candidate, candidates}
+use Rattle.candidates.specs.declared.Picked.the-variants.{At, NoCandidate, SentBack, Taken}
+use Rattle.distance.specs.Distance.{top}
+use Rattle.candidates.specs.Slot.{View}
+use Rattle.candidates.specs.Window.{worth, isFree, isAvailable, free, rank, candidate, candidates}
 use Rattle.candidates.specs.Rounds.{keys}
 use Rattle.candidates.specs.Choice.{worthIn, candidatesIn, choice}
 use Rattle.candidates.specs.Promises.{
@@ -41,28 +38,29 @@ use Rattle.candidates.specs.Promises.{
 use Rattle.laws.proofs.Tests.{both-left, both-right}
 use Rattle.laws.proofs.Those.{Place, count-those, those-in, those-apart, those-has}
 use Rattle.candidates.proofs.Draws.{Draw, none, at, back, draw, picked-none, draws-each, draws-back}
+use Rattle.candidates.proofs.Levels.{distanceOf, near-small}
 use Rattle.candidates.proofs.Ranking.{avail-yes, avail-bounds, key-avail, greater-key, count-candidates}
 
 -- ---- the list of the candidates
 
-module _ (slots reach : List ℕ) (v : Window) where
+module _ (v : View) (w : Window) where
   -- each candidate stands in it
-  stands : (i : ℕ) → Candidate slots reach v i → Place (candidatesIn slots reach v) i
+  stands : (i : ℕ) → Candidate v w i → Place (candidatesIn v w) i
   unfolding candidatesIn candidates
-  stands i c = those-has (candidate (worthIn slots reach v) (v .width)) 0 (v .width) i (omega arith) (omega (arith, c .inside)) (c .good)
+  stands i c = those-has (candidate (worthIn v w) (w .width)) 0 (w .width) i (omega arith) (omega (arith, c .inside)) (c .good)
 
   -- and nothing else
-  listed : (k : ℕ) → k < length (candidatesIn slots reach v) → Candidate slots reach v (getD (candidatesIn slots reach v) k 0)
+  listed : (k : ℕ) → k < length (candidatesIn v w) → Candidate v w (getD (candidatesIn v w) k 0)
   unfolding candidatesIn candidates
   listed k l =
-      let s = those-in (candidate (worthIn slots reach v) (v .width)) 0 (v .width) k l in
+      let s = those-in (candidate (worthIn v w) (w .width)) 0 (w .width) k l in
       record { inside = omega (arith, s .high); good = s .passes }
 
   -- none twice
-  apart : (k l : ℕ) → k < length (candidatesIn slots reach v) → l < length (candidatesIn slots reach v)
-      → getD (candidatesIn slots reach v) k 0 ≡ getD (candidatesIn slots reach v) l 0 → k ≡ l
+  apart : (k l : ℕ) → k < length (candidatesIn v w) → l < length (candidatesIn v w)
+      → getD (candidatesIn v w) k 0 ≡ getD (candidatesIn v w) l 0 → k ≡ l
   unfolding candidatesIn candidates
-  apart = those-apart (candidate (worthIn slots reach v) (v .width)) 0 (v .width)
+  apart = those-apart (candidate (worthIn v w) (w .width)) 0 (w .width)
 
 -- ---- draws
 
@@ -71,54 +69,55 @@ abbrev answer : Picked → ℕ
 answer (At x n) = 0
 answer NoCandidate = 1
 answer SentBack = 2
+answer Taken = 3
 
 pub pick-is-candidate : PickIsCandidate
 unfolding choice
-pick-is-candidate slots reach v d x n e = go (draw (v .first) (candidatesIn slots reach v) d)
+pick-is-candidate v w d x n e = go (draw (w .first) (candidatesIn v w) d)
   where
-    go : Draw (v .first) (candidatesIn slots reach v) d → Picks slots reach v x n
+    go : Draw (w .first) (candidatesIn v w) d → Picks v w x n
     go (none z q) = absurd (omega (arith, ap answer (sym q ∙ e)))
     go (back q) = absurd (omega (arith, ap answer (sym q ∙ e)))
     go (at p q) =
-        let k = d % length (candidatesIn slots reach v) in
-        let y : x ≡ v .first + getD (candidatesIn slots reach v) k 0 = cc in
-        let z : n ≡ length (candidatesIn slots reach v) = cc in
-        record { slot = getD (candidatesIn slots reach v) k 0; there = y; candidate = listed slots reach v k (mod-lt d p); number = z }
+        let k = d % length (candidatesIn v w) in
+        let y : x ≡ w .first + getD (candidatesIn v w) k 0 = cc in
+        let z : n ≡ length (candidatesIn v w) = cc in
+        record { slot = getD (candidatesIn v w) k 0; there = y; candidate = listed v w k (mod-lt d p); number = z }
 
 pub equal-draws-each : EqualDraws
 unfolding choice
-equal-draws-each slots reach v i c =
-    let h = stands slots reach v i c in
-    rw (h .is) at (draws-each (v .first) (candidatesIn slots reach v) (apart slots reach v) (h .place) (h .inside))
+equal-draws-each v w i c =
+    let h = stands v w i c in
+    rw (h .is) at (draws-each (w .first) (candidatesIn v w) (apart v w) (h .place) (h .inside))
 
 pub rest-sent-back : RestSentBack
 unfolding choice
-rest-sent-back slots reach v some = draws-back (v .first) (candidatesIn slots reach v) some
+rest-sent-back v w some = draws-back (w .first) (candidatesIn v w) some
 
 pub none-exactly : NoneExactly
 unfolding choice
-none-exactly slots reach v d = (λ e i c. only e (stands slots reach v i c), λ f. picked-none (v .first) (candidatesIn slots reach v) d (empty f))
+none-exactly v w d = (λ e i c. only e (stands v w i c), λ f. picked-none (w .first) (candidatesIn v w) d (empty f))
   where
-    only : {i : ℕ} → choice slots reach v d ≡ NoCandidate → Place (candidatesIn slots reach v) i → ⊥
-    only e h = go (draw (v .first) (candidatesIn slots reach v) d)
+    only : {i : ℕ} → choice v w d ≡ NoCandidate → Place (candidatesIn v w) i → ⊥
+    only e h = go (draw (w .first) (candidatesIn v w) d)
       where
-        go : Draw (v .first) (candidatesIn slots reach v) d → ⊥
+        go : Draw (w .first) (candidatesIn v w) d → ⊥
         go (none z q) = omega (arith, h .inside)
         go (at p q) = omega (arith, ap answer (sym q ∙ e))
         go (back q) = omega (arith, ap answer (sym q ∙ e))
 
-    empty : ((i : ℕ) → Candidate slots reach v i → ⊥) → length (candidatesIn slots reach v) ≡ 0
-    empty f = go (ℕ-discrete (length (candidatesIn slots reach v)) 0)
+    empty : ((i : ℕ) → Candidate v w i → ⊥) → length (candidatesIn v w) ≡ 0
+    empty f = go (ℕ-discrete (length (candidatesIn v w)) 0)
       where
-        go : Dec (length (candidatesIn slots reach v) ≡ 0) → length (candidatesIn slots reach v) ≡ 0
+        go : Dec (length (candidatesIn v w) ≡ 0) → length (candidatesIn v w) ≡ 0
         go (yes e) = e
-        go (no n) = absurd (f _ (listed slots reach v 0 (omega arith)))
+        go (no n) = absurd (f _ (listed v w 0 (omega arith)))
 
 -- ---- the rule of four
 
 pub free-are-candidates : FreeAreCandidates
 unfolding candidate isFree
-free-are-candidates slots reach v i l e = record { inside = l; good = simp (eq-eqb (worthIn slots reach v i) top (ap worth e)) }
+free-are-candidates v w i l e = record { inside = l; good = simp (eq-eqb (worthIn v w i) top (ap worth e)) }
 
 -- a candidate that is not free is available, and its rank is below 4 - free
 held : (ws : ℕ → ℕ) (n i : ℕ) → (ws i ≡ top → ⊥) → candidate ws n i ≡ true → (isAvailable (ws i) ≡ true) × (rank ws n i < 4 - free ws n)
@@ -129,84 +128,61 @@ held ws n i f c =
     let h : both a r ≡ true = sym (ap (λ t. either t (both a r)) (ne-eqb (ws i) top f)) ∙ c in
     (both-left a r h, ltb-true (rank ws n i) (4 - free ws n) (both-right a r h))
 
--- the distance of an available slot
-abbrev distanceOf : SlotState → ℕ
-distanceOf Own = 0
-distanceOf Earlier = 0
-distanceOf Free = 0
-distanceOf (Far d) = d
-distanceOf Barred = 0
+module _ (v : View) (w : Window) (i : ℕ) where
+  -- a distance is far below top
+  far-le : (d : ℕ) → stateIn v w i ≡ Far d → d + 5 < top
+  far-le d e = omega (arith, ap distanceOf e, near-small v (w .present) (w .first + i) (w .timeout))
 
-module _ (slots reach : List ℕ) (v : Window) (i : ℕ) where
-  -- a distance is at most never
-  far-le : (d : ℕ) → stateIn slots reach v i ≡ Far d → d ≤ never
-  unfolding stateOf
-  far-le d e =
-      omega (
-        arith,
-        ap distanceOf e,
-        go (some (λ k. isOwn (times k)) (suc (v .timeout))) (earlier slots (v .present) (v .first + i))
-            (every (λ k. isNone (times k)) (suc (v .timeout))) (every (λ k. reusable reach (times k)) (suc (v .timeout)))
-            (least-le never (λ k. gap reach (times k)) (suc (v .timeout))),
-      )
-    where
-      times : ℕ → ℕ
-      times = frame slots (v .present) (v .first + i)
-
-      go : {k : ℕ} (o l f r : Bool) → k ≤ never → distanceOf (pick o Own (pick l Earlier (pick f Free (pick r (Far k) Barred)))) ≤ never
-      go true l f r b = omega arith
-      go false true f r b = omega arith
-      go false false true r b = omega arith
-      go false false false true b = b
-      go false false false false b = omega arith
-
-  module _ (d : ℕ) (far : stateIn slots reach v i ≡ Far d) where
+  module _ (d : ℕ) (far : stateIn v w i ≡ Far d) where
     -- it is available ..
-    far-available : isAvailable (worthIn slots reach v i) ≡ true
+    far-available : isAvailable (worthIn v w i) ≡ true
     far-available =
-        let w : worthIn slots reach v i ≡ d + 1 = ap worth far in
-        avail-yes (worthIn slots reach v i) (omega arith) (omega (arith, far-le d far))
+        let e : worthIn v w i ≡ d + 1 = ap worth far in
+        avail-yes (worthIn v w i) (omega arith) (omega (arith, far-le d far))
 
     -- .. and its key is by its distance and its place
-    far-key : keys (worthIn slots reach v) i ≡ (d + 1) * 512 + (511 - i)
-    far-key = key-avail (worthIn slots reach v i) i far-available ∙ ap (λ w. w * 512 + (511 - i)) (ap worth far)
+    far-key : keys (worthIn v w) i ≡ (d + 1) * 512 + (511 - i)
+    far-key = key-avail (worthIn v w i) i far-available ∙ ap (λ w. w * 512 + (511 - i)) (ap worth far)
 
 pub held-only-under-four : HeldOnlyUnderFour
-held-only-under-four slots reach v i c unfree = go (stateIn slots reach v i) refl
+held-only-under-four v w i c unfree = go (stateIn v w i) refl
   where
     -- a slot of the worth 0 is no candidate
-    worthless : worthIn slots reach v i ≡ 0 → ⊥
+    worthless : worthIn v w i ≡ 0 → ⊥
     worthless z =
-        let h = held (worthIn slots reach v) (v .width) i (λ e. omega arith) (c .good) in
-        omega (arith, avail-bounds (worthIn slots reach v i) (h .0) .0)
+        let h = held (worthIn v w) (w .width) i (λ e. omega arith) (c .good) in
+        omega (arith, avail-bounds (worthIn v w i) (h .0) .0)
 
-    go : (s : SlotState) → stateIn slots reach v i ≡ s → Reused slots reach v i
+    go : (s : SlotState) → stateIn v w i ≡ s → Reused v w i
     go Free e = absurd (unfree e)
     go (Far d) e =
-        let b = avail-bounds (worthIn slots reach v i) (far-available slots reach v i d e) in
-        let h = held (worthIn slots reach v) (v .width) i (λ q. omega (arith, b .1)) (c .good) in
+        let b = avail-bounds (worthIn v w i) (far-available v w i d e) in
+        let h = held (worthIn v w) (w .width) i (λ q. omega (arith, b .1)) (c .good) in
         record { distance = d; far = e; few = omega (arith, h .1); ranks = h .1 }
     go Own e = absurd (worthless (ap worth e))
     go Earlier e = absurd (worthless (ap worth e))
-    go Barred e = absurd (worthless (ap worth e))
+    go OwnUnknown e = absurd (worthless (ap worth e))
+    go Base e = absurd (worthless (ap worth e))
+    go Unknown e = absurd (worthless (ap worth e))
+    go HeldOff e = absurd (worthless (ap worth e))
 
 -- a slot that is available and has no smaller key than an available candidate is one
-better : (slots reach : List ℕ) (v : Window) (i j d e : ℕ) → v .width ≤ 512 → Candidate slots reach v i → j < v .width
-    → stateIn slots reach v i ≡ Far d → stateIn slots reach v j ≡ Far e → (d + 1) * 512 + (511 - i) ≤ (e + 1) * 512 + (511 - j)
-    → Candidate slots reach v j
-better slots reach v i j d e fits c l p q m =
-    let a = far-available slots reach v i d p in
-    let b = far-available slots reach v j e q in
-    let k : keys (worthIn slots reach v) i ≤ keys (worthIn slots reach v) j = omega (arith, far-key slots reach v i d p, far-key slots reach v j e q) in
-    record { inside = l; good = greater-key (worthIn slots reach v) (v .width) fits i j (c .inside) l a b k (c .good) }
+better : (v : View) (w : Window) (i j d e : ℕ) → w .width ≤ 512 → Candidate v w i → j < w .width
+    → stateIn v w i ≡ Far d → stateIn v w j ≡ Far e → (d + 1) * 512 + (511 - i) ≤ (e + 1) * 512 + (511 - j)
+    → Candidate v w j
+better v w i j d e fits c l p q m =
+    let a = far-available v w i d p in
+    let b = far-available v w j e q in
+    let k : keys (worthIn v w) i ≤ keys (worthIn v w) j = omega (arith, far-key v w i d p, far-key v w j e q) in
+    record { inside = l; good = greater-key (worthIn v w) (w .width) fits i j (c .inside) l a b k (c .good) }
 
 pub farthest-first : FarthestFirst
-farthest-first slots reach v i j d e fits c l p q m = better slots reach v i j d e fits c l p q (omega arith)
+farthest-first v w i j d e fits c l p q m = better v w i j d e fits c l p q (omega arith)
 
 pub ties-to-the-earlier : TiesToTheEarlier
-ties-to-the-earlier slots reach v i j d fits c l p q = better slots reach v i j d d fits c (omega (arith, c .inside)) p q (omega arith)
+ties-to-the-earlier v w i j d fits c l p q = better v w i j d d fits c (omega (arith, c .inside)) p q (omega arith)
 
 pub number-of-candidates : NumberOfCandidates
 unfolding candidatesIn candidates
-number-of-candidates slots reach v fits =
-    count-those (candidate (worthIn slots reach v) (v .width)) (v .width) ∙ count-candidates (worthIn slots reach v) (v .width) fits
+number-of-candidates v w fits =
+    count-those (candidate (worthIn v w) (w .width)) (w .width) ∙ count-candidates (worthIn v w) (w .width) fits

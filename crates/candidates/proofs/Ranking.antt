@@ -10,7 +10,8 @@ use borrow.Author.Tests.{eq-eqb, ne-eqb, lt-ltb, le-ltb, le-leb, lt-leb, leb-tru
 use Rattle.laws.specs.Tests.{both, either}
 use Rattle.laws.specs.Counting.{one}
 use Rattle.laws.specs.Ranges.{howMany}
-use Rattle.candidates.specs.Window.{top, isFree, isAvailable, free, available, ahead, outranks, rank, candidate}
+use Rattle.distance.specs.Distance.{top}
+use Rattle.candidates.specs.Window.{isFree, isAvailable, free, available, ahead, outranks, rank, candidate}
 use Rattle.candidates.specs.Rounds.{aboveAll, keyOf, keys, cutOf, within, inCut}
 use Rattle.laws.proofs.Sums.{sums, sums-ext, sums-add, many-sums, one-true, one-false, one-both, one-ltb}
 use Rattle.candidates.proofs.Cuts.{Cut, rounds, kept, left, kept-count, atLeast, ge, ge-yes, ge-no, ge-zero}

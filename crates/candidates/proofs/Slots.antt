@@ -1,251 +1,30 @@
--- The state of a slot by the lowest level of its times.
+-- A slot by the book alone, by the tests of the code: the slot a frame earlier, the place a frame on, whether it is free, and the holders to be looked at.
 -- Assumes nothing.
 use mathlib.Core.Path.{_≡_, refl, sym, ap, _∙_}
-use mathlib.Core.Logic.{_⊎_, inl, inr}
-use mathlib.Core.Bool.{true, false}
+use mathlib.Core.Bool.{Bool, true, false}
 use mathlib.Core.List.{List}
-use Prim.Native.Nat.{ℕ, zero, suc, _+_, _-_, _*_, _%_, _≤_, _<_, min, max}
-use native.Mathlib.Decide.{ℕ-discrete, decLe, decLt}
+use Prim.Native.Nat.{ℕ, zero, suc, _+_, _-_, _*_, _%_, _≤_, _<_}
+use native.Mathlib.Decide.{ℕ-discrete, decLt}
+use native.Mathlib.Numerals.{add-one}
 use native.Mathlib.Omega.{arith}
 use lib.ListN.{getD}
-use lib.Dec.{eqb, ltb}
+use lib.Dec.{eqb}
 use borrow.Author.Tests.{eq-eqb, ne-eqb, lt-ltb, le-ltb, le-leb, lt-leb}
+use Rattle.laws.specs.Tests.{both, either}
 use Rattle.laws.specs.Counting.{one}
-use Rattle.laws.specs.Ranges.{some, every, least}
+use Rattle.laws.specs.Ranges.{every, howMany}
+use Rattle.laws.proofs.Sums.{one-true, one-false}
 use Rattle.limits.specs.Limits.{frameSlots, slotTimes}
+use Rattle.ship.specs.declared.Ship.{Ship}
+use Rattle.ship.specs.declared.Station.{Station}
 use Rattle.book.specs.Book.{ours, place}
-use Rattle.candidates.specs.Window.{top}
-use Rattle.distance.specs.Distance.{never}
-use Rattle.candidates.specs.Slot.{holderAt, frame, isOwn, isNone, gap, reusable, earlier, stateOf}
-use Rattle.candidates.specs.Rounds.{level, lowest}
-use Rattle.candidates.specs.declared.SlotState.the-variants.{Own, Earlier, Free, Far, Barred}
-use Rattle.laws.proofs.Sums.{one-true, one-false, true-one, false-one, one-both, one-either, one-ltb}
-
--- ---- the level of a holder
-
-module _ (reach : List ℕ) (h : ℕ) where
-  -- a record's distance is its reach, and any other holder's is never
-  gap-record : 0 < h → h < ours → gap reach h ≡ getD reach (h - 1) 0
-  unfolding gap
-  gap-record p l = simp (lt-ltb 0 h p, lt-ltb h ours l)
-
-  gap-none : h ≡ 0 → gap reach h ≡ never
-  unfolding gap
-  gap-none e = simp (le-ltb 0 h (omega arith))
-
-  gap-over : 0 < h → ours ≤ h → gap reach h ≡ never
-  unfolding gap
-  gap-over p l = simp (lt-ltb 0 h p, le-ltb h ours l)
-
-  -- the level by the tests of the code
-  pub level-none : h ≡ 0 → top ≡ level reach h
-  unfolding level isNone
-  level-none e = simp (eq-eqb h 0 e)
-
-  pub level-own : h ≡ ours → 0 ≡ level reach h
-  unfolding level isNone isOwn
-  level-own e = simp (ne-eqb h 0 (λ q. omega arith), eq-eqb h ours e)
-
-  module _ (p : h ≡ 0 → ⊥) (l : h < ours) where
-    pub level-never : getD reach (h - 1) 0 ≡ never → 1 ≡ level reach h
-    unfolding level isNone isOwn
-    level-never e = simp (ne-eqb h 0 p, ne-eqb h ours (λ q. omega arith), eq-eqb (gap reach h) never (gap-record (omega arith) l ∙ e))
-
-    pub level-far : (getD reach (h - 1) 0 ≡ never → ⊥) → getD reach (h - 1) 0 + 2 ≡ level reach h
-    unfolding level isNone isOwn
-    level-far e =
-        let g = gap-record (omega arith) l in
-        simp (ne-eqb h 0 p, ne-eqb h ours (λ q. omega arith), ne-eqb (gap reach h) never (λ q. e (sym g ∙ q))) (omega arith)
-
-  pub level-other : (h ≡ 0 → ⊥) → (h ≡ ours → ⊥) → ours ≤ h → 1 ≡ level reach h
-  unfolding level isNone isOwn
-  level-other p n l = simp (ne-eqb h 0 p, ne-eqb h ours n, eq-eqb (gap reach h) never (gap-over (omega arith) l))
-
-  -- the tests of a holder as numbers
-  none-yes : h ≡ 0 → one (isNone h) ≡ 1
-  unfolding isNone
-  none-yes e = one-true (eq-eqb h 0 e)
-
-  none-no : (h ≡ 0 → ⊥) → one (isNone h) ≡ 0
-  unfolding isNone
-  none-no e = one-false (ne-eqb h 0 e)
-
-  own-yes : h ≡ ours → one (isOwn h) ≡ 1
-  unfolding isOwn
-  own-yes e = one-true (eq-eqb h ours e)
-
-  own-no : (h ≡ ours → ⊥) → one (isOwn h) ≡ 0
-  unfolding isOwn
-  own-no e = one-false (ne-eqb h ours e)
-
-  reusable-bit : one (reusable reach h) ≡ max (one (isNone h)) (min 1 (never - gap reach h))
-  unfolding reusable
-  reusable-bit = one-either (isNone h) (ltb (gap reach h) never) ∙ ap (max (one (isNone h))) (one-ltb (gap reach h) never)
-
-  -- what the level says
-  record Level : Type 0 where
-    pub own : one (isOwn h) ≡ 1 - level reach h
-    pub none : one (isNone h) ≡ 1 - (top - level reach h)
-    pub again : one (reusable reach h) ≡ min 1 (level reach h - 1)
-    pub near : 2 ≤ level reach h → min (level reach h) (never + 2) ≡ gap reach h + 2
-    pub range : (level reach h ≡ top) ⊎ (level reach h < never + 2)
-
-  levels : ((k : ℕ) → getD reach k 0 ≤ never) → Level
-  levels small = go (ℕ-discrete h 0) (ℕ-discrete h ours) (decLt h ours) (ℕ-discrete (getD reach (h - 1) 0) never)
-    where
-      r : one (reusable reach h) ≡ max (one (isNone h)) (min 1 (never - gap reach h))
-      r = reusable-bit
-
-      make : (l g o n : ℕ) → level reach h ≡ l → gap reach h ≡ g → one (isOwn h) ≡ o → one (isNone h) ≡ n
-          → o ≡ 1 - l → n ≡ 1 - (top - l) → max n (min 1 (never - g)) ≡ min 1 (l - 1) → (2 ≤ l → min l (never + 2) ≡ g + 2) → (l ≡ top) ⊎ (l < never + 2) → Level
-      make l g o n el eg eo en a b c d e =
-          record {
-            own = rw (el, eo) a;
-            none = rw (el, en) b;
-            again = r ∙ rw (el, eg, en) c;
-            near = rw (el, eg) d;
-            range = rw el e;
-          }
-
-      go : Dec (h ≡ 0) → Dec (h ≡ ours) → Dec (h < ours) → Dec (getD reach (h - 1) 0 ≡ never) → Level
-      go (yes e) x y z = make top never 0 1 (sym (level-none e)) (gap-none e) (own-no (λ q. omega arith)) (none-yes e) refl refl refl (λ _. refl) (inl refl)
-      go (no e) (yes x) y z = make 0 never 1 0 (sym (level-own x)) (gap-over (omega arith) (omega arith)) (own-yes x) (none-no e) refl refl refl (λ q. absurd (omega arith)) (inr (omega arith))
-      go (no e) (no x) (yes y) (yes z) = make 1 never 0 0 (sym (level-never e y z)) (gap-record (omega arith) y ∙ z) (own-no x) (none-no e) refl refl refl (λ q. absurd (omega arith)) (inr (omega arith))
-      go (no e) (no x) (no y) z = make 1 never 0 0 (sym (level-other e x (omega arith))) (gap-over (omega arith) (omega arith)) (own-no x) (none-no e) refl refl refl (λ q. absurd (omega arith)) (inr (omega arith))
-      go (no e) (no x) (yes y) (no z) =
-          far (getD reach (h - 1) 0) (small (h - 1)) z (sym (level-far e y z)) (gap-record (omega arith) y) (own-no x) (none-no e)
-        where
-          far : (g : ℕ) → g ≤ never → (g ≡ never → ⊥) → level reach h ≡ g + 2 → gap reach h ≡ g → one (isOwn h) ≡ 0 → one (isNone h) ≡ 0 → Level
-          far g s z el eg eo en = make (g + 2) g 0 0 el eg eo en (omega arith) (omega arith) (omega arith) (λ _. omega arith) (inr (omega arith))
-
--- ---- the lowest of several
-
--- a function that rises keeps the smaller of two
-rising : (f : ℕ → ℕ) → ((a b : ℕ) → a ≤ b → f a ≤ f b) → (a b : ℕ) → f (min a b) ≡ min (f a) (f b)
-rising f up a b = go (decLe a b)
-  where
-    go : Dec (a ≤ b) → f (min a b) ≡ min (f a) (f b)
-    go (yes l) = let e : min a b ≡ a = omega arith in ap f e ∙ omega (arith, up a b l)
-    go (no l) = let e : min a b ≡ b = omega arith in ap f e ∙ omega (arith, up b a (omega arith))
-
--- the nearest of two, by levels
-near-step : (L l G g K : ℕ) → min L K ≡ G + 2 → min l K ≡ g + 2 → min (min L l) K ≡ min G g + 2
-near-step L l G g K a b = omega arith
-
-module _ (reach : List ℕ) (small : (k : ℕ) → getD reach k 0 ≤ never) (g : ℕ → ℕ) where
-  at : (i : ℕ) → Level reach (g i)
-  at i = levels reach (g i) small
-
-  -- some is own where the lowest level is 0
-  some-own : (n : ℕ) → one (some (λ i. isOwn (g i)) n) ≡ 1 - least top (λ i. level reach (g i)) n
-  unfolding some least
-  some-own zero = one-false refl ∙ omega arith
-  some-own (suc n) =
-      one-either (some (λ i. isOwn (g i)) n) (isOwn (g n))
-      ∙ ap (λ x. max x (one (isOwn (g n)))) (some-own n)
-      ∙ ap (max (1 - least top (λ i. level reach (g i)) n)) (at n .own)
-      ∙ omega arith
-
-  -- all are nobody's where it is top
-  every-none : (n : ℕ) → one (every (λ i. isNone (g i)) n) ≡ 1 - (top - least top (λ i. level reach (g i)) n)
-  unfolding every least
-  every-none zero = one-true refl ∙ omega arith
-  every-none (suc n) =
-      one-both (every (λ i. isNone (g i)) n) (isNone (g n))
-      ∙ ap (λ x. min x (one (isNone (g n)))) (every-none n)
-      ∙ ap (min (1 - (top - least top (λ i. level reach (g i)) n))) (at n .none)
-      ∙ sym (rising (λ x. 1 - (top - x)) (λ a b l. omega arith) (least top (λ i. level reach (g i)) n) (level reach (g n)))
-
-  -- all may be used where it is 2 or more
-  every-again : (n : ℕ) → one (every (λ i. reusable reach (g i)) n) ≡ min 1 (least top (λ i. level reach (g i)) n - 1)
-  unfolding every least
-  every-again zero = one-true refl ∙ omega arith
-  every-again (suc n) =
-      one-both (every (λ i. reusable reach (g i)) n) (reusable reach (g n))
-      ∙ ap (λ x. min x (one (reusable reach (g n)))) (every-again n)
-      ∙ ap (min (min 1 (least top (λ i. level reach (g i)) n - 1))) (at n .again)
-      ∙ sym (rising (λ x. min 1 (x - 1)) (λ a b l. omega arith) (least top (λ i. level reach (g i)) n) (level reach (g n)))
-
-  -- and then it tells the nearest holder's distance
-  nearest : (n : ℕ) → 2 ≤ least top (λ i. level reach (g i)) n → min (least top (λ i. level reach (g i)) n) (never + 2) ≡ least never (λ i. gap reach (g i)) n + 2
-  unfolding least
-  nearest zero l = refl
-  nearest (suc n) l = near-step (least top (λ i. level reach (g i)) n) (level reach (g n)) (least never (λ i. gap reach (g i)) n) (gap reach (g n)) (never + 2) (nearest n (omega arith)) (at n .near (omega arith))
-
-  -- it is top, or below never + 2
-  range : (n : ℕ) → (least top (λ i. level reach (g i)) n ≡ top) ⊎ (least top (λ i. level reach (g i)) n < never + 2)
-  unfolding least
-  range zero = inl refl
-  range (suc n) = go (range n) (at n .range)
-    where
-      go : {L l : ℕ} → (L ≡ top) ⊎ (L < never + 2) → (l ≡ top) ⊎ (l < never + 2) → (min L l ≡ top) ⊎ (min L l < never + 2)
-      go (inl a) (inl b) = inl (omega arith)
-      go (inl a) (inr b) = inr (omega arith)
-      go (inr a) b = inr (omega arith)
-
--- the distance from the level
-far-off : (low L G K : ℕ) → low ≡ L → min L K ≡ G + 2 → low < K → low - 2 ≡ G
-far-off low L G K a b c = omega arith
-
--- ---- the state
-
-module _ (slots reach : List ℕ) (present at m low : ℕ) (small : (k : ℕ) → getD reach k 0 ≤ never) (is : low ≡ lowest slots reach present at (m + 1)) where
-  -- the same of the slot's times, low being their lowest level
-  low-is : low ≡ least top (λ i. level reach (frame slots present at i)) (suc m)
-  low-is = let e : m + 1 ≡ suc m = omega arith in is ∙ ap (lowest slots reach present at) e
-
-  own-is : one (some (λ i. isOwn (frame slots present at i)) (suc m)) ≡ 1 - low
-  own-is = some-own reach small (λ i. frame slots present at i) (suc m) ∙ ap (λ x. 1 - x) (sym low-is)
-
-  none-is : one (every (λ i. isNone (frame slots present at i)) (suc m)) ≡ 1 - (top - low)
-  none-is = every-none reach small (λ i. frame slots present at i) (suc m) ∙ ap (λ x. 1 - (top - x)) (sym low-is)
-
-  again-is : one (every (λ i. reusable reach (frame slots present at i)) (suc m)) ≡ min 1 (low - 1)
-  again-is = every-again reach small (λ i. frame slots present at i) (suc m) ∙ ap (λ x. min 1 (x - 1)) (sym low-is)
-
-  -- a distance fits 32 bits
-  pub low-range : (low ≡ top → ⊥) → low < never + 2
-  low-range n = go (range reach small (λ i. frame slots present at i) (suc m))
-    where
-      go : (least top (λ i. level reach (frame slots present at i)) (suc m) ≡ top) ⊎ (least top (λ i. level reach (frame slots present at i)) (suc m) < never + 2) → low < never + 2
-      go (inl e) = absurd (n (low-is ∙ e))
-      go (inr l) = omega (arith, low-is)
-
-  -- the state by the tests of the code
-  pub state-own : low ≡ 0 → Own ≡ stateOf slots reach present at m
-  unfolding stateOf
-  state-own e = simp (true-one (some (λ i. isOwn (frame slots present at i)) (suc m)) (own-is ∙ omega arith))
-
-  module _ (some′ : low ≡ 0 → ⊥) where
-    not-own : some (λ i. isOwn (frame slots present at i)) (suc m) ≡ false
-    not-own = false-one (some (λ i. isOwn (frame slots present at i)) (suc m)) (own-is ∙ omega arith)
-
-    pub state-earlier : earlier slots present at ≡ true → Earlier ≡ stateOf slots reach present at m
-    unfolding stateOf
-    state-earlier e = simp (not-own, e)
-
-    module _ (fresh : earlier slots present at ≡ false) where
-      pub state-free : low ≡ top → Free ≡ stateOf slots reach present at m
-      unfolding stateOf
-      state-free e = simp (not-own, fresh, true-one (every (λ i. isNone (frame slots present at i)) (suc m)) (none-is ∙ omega arith))
-
-      module _ (held : low ≡ top → ⊥) where
-        not-free : every (λ i. isNone (frame slots present at i)) (suc m) ≡ false
-        not-free = false-one (every (λ i. isNone (frame slots present at i)) (suc m)) (none-is ∙ omega (arith, low-range held))
-
-        pub state-barred : low ≡ 1 → Barred ≡ stateOf slots reach present at m
-        unfolding stateOf
-        state-barred e = simp (not-own, fresh, not-free, false-one (every (λ i. reusable reach (frame slots present at i)) (suc m)) (again-is ∙ omega arith))
-
-        all-again : (low ≡ 1 → ⊥) → every (λ i. reusable reach (frame slots present at i)) (suc m) ≡ true
-        all-again n = true-one (every (λ i. reusable reach (frame slots present at i)) (suc m)) (again-is ∙ omega arith)
-
-        pub state-far : (low ≡ 1 → ⊥) → Far (low - 2) ≡ stateOf slots reach present at m
-        unfolding stateOf
-        state-far n =
-            let e = nearest reach small (λ i. frame slots present at i) (suc m) (omega (arith, low-is)) in
-            let q = far-off low (least top (λ i. level reach (frame slots present at i)) (suc m)) (least never (λ i. gap reach (frame slots present at i)) (suc m)) (never + 2) low-is e (low-range held) in
-            simp (not-own, fresh, not-free, all-again n) (ap Far q)
+use Rattle.distance.specs.Distance.{ownLevel, baseLevel, heldOffLevel, top, levelOf}
+use Rattle.candidates.specs.declared.Window.{Window}
+use Rattle.candidates.specs.declared.rounds.Best.{Best}
+use Rattle.candidates.specs.declared.slot.Slot.{Slot}
+use Rattle.candidates.specs.declared.slot.Held.{Held}
+use Rattle.candidates.specs.Slot.{holderAt, frame, isOwn, isNone, isRecord, earlier}
+use Rattle.candidates.specs.Scanning.{worthBy, isNew, gathered, idle, heldSlot, slotOf, freeAt, freeIn, freeUptoFour, recordOf, levelBy, reusedBy, candidateBy}
 
 -- ---- the slot a frame earlier
 
@@ -264,3 +43,203 @@ module _ (slots : List ℕ) (present at : ℕ) where
 
 pub a-frame-on : (present at i p : ℕ) → p ≡ place present (at + frameSlots * i) → (p + frameSlots) % slotTimes ≡ place present (at + frameSlots * (i + 1))
 a-frame-on present at i p e = omega arith
+
+-- the holder there
+pub held-there : (slots : List ℕ) (present at i p : ℕ) → p ≡ place present (at + frameSlots * i) → getD slots p 0 ≡ frame slots present at i
+unfolding holderAt
+held-there slots present at i p e = ap (λ (q : ℕ). getD slots q 0) e
+
+-- ---- every number below n passes: the turns of a loop that stops at one that does not
+
+pub every-none : (p : ℕ → Bool) → every p 0 ≡ true
+unfolding every
+every-none p = refl
+
+every-suc : (p : ℕ → Bool) (j : ℕ) → every p (suc j) ≡ both (every p j) (p j)
+unfolding every
+every-suc p j = refl
+
+pub every-more : (p : ℕ → Bool) (j : ℕ) → every p j ≡ true → p j ≡ true → every p (j + 1) ≡ true
+every-more p j e q = ap (every p) (add-one j) ∙ every-suc p j ∙ ap (λ (t : Bool). both t (p j)) e ∙ q
+
+both-not : (t : Bool) → both t false ≡ false
+both-not true = refl
+both-not false = refl
+
+pub every-not : (p : ℕ → Bool) (n j : ℕ) → j < n → p j ≡ false → every p n ≡ false
+every-not p zero j l q = absurd (omega arith)
+every-not p (suc n) j l q = every-suc p n ∙ go (ℕ-discrete j n) (λ m. every-not p n j m q)
+  where
+    go : Dec (j ≡ n) → (j < n → every p n ≡ false) → both (every p n) (p n) ≡ false
+    go (yes e) h = ap (λ (k : ℕ). both (every p n) (p k)) (sym e) ∙ ap (both (every p n)) q ∙ both-not (every p n)
+    go (no e) h = ap (λ (t : Bool). both t (p n)) (h (omega arith))
+
+-- ---- a free slot
+
+pub none-held : (h : ℕ) → h ≡ 0 → isNone h ≡ true
+unfolding isNone
+none-held h e = eq-eqb h 0 e
+
+pub some-held : (h : ℕ) → (h ≡ 0 → ⊥) → isNone h ≡ false
+unfolding isNone
+some-held h e = ne-eqb h 0 e
+
+module _ (slots : List ℕ) (present at m : ℕ) where
+  pub free-earlier : earlier slots present at ≡ true → false ≡ freeAt slots present at m
+  unfolding freeAt
+  free-earlier e = simp e
+
+  module _ (e : earlier slots present at ≡ false) where
+    free-is : freeAt slots present at m ≡ every (λ i. isNone (frame slots present at i)) (m + 1)
+    unfolding freeAt
+    free-is = simp e
+
+    -- the time i is held
+    pub free-held : (i p : ℕ) → p ≡ place present (at + frameSlots * i) → i ≤ m → (getD slots p 0 ≡ 0 → ⊥) → false ≡ freeAt slots present at m
+    free-held i p q l n =
+        sym (free-is ∙ every-not (λ i. isNone (frame slots present at i)) (m + 1) i (omega arith)
+        (some-held (frame slots present at i) (λ z. n (held-there slots present at i p q ∙ z))))
+
+    -- none is
+    pub free-all : (i : ℕ) → m < i → i ≤ m + 1 → every (λ i. isNone (frame slots present at i)) i ≡ true → true ≡ freeAt slots present at m
+    free-all i a b q = let s : i ≡ m + 1 = omega arith in sym (free-is ∙ ap (every (λ i. isNone (frame slots present at i))) (sym s) ∙ q)
+
+-- one turn more
+pub free-turn : (slots : List ℕ) (present at i p : ℕ) → p ≡ place present (at + frameSlots * i) → every (λ i. isNone (frame slots present at i)) i ≡ true
+    → getD slots p 0 ≡ 0 → every (λ i. isNone (frame slots present at i)) (i + 1) ≡ true
+free-turn slots present at i p q e z =
+    every-more (λ i. isNone (frame slots present at i)) i e (none-held (frame slots present at i) (sym (held-there slots present at i p q) ∙ z))
+
+-- ---- counting to four
+
+module _ (p : ℕ → Bool) where
+  many-suc : (n : ℕ) → howMany p (suc n) ≡ howMany p n + one (p n)
+  unfolding howMany
+  many-suc n = refl
+
+  many-grows : (i d : ℕ) → howMany p i ≤ howMany p (i + d)
+  many-grows i zero = let e : i + 0 ≡ i = omega arith in omega (arith, ap (howMany p) e)
+  many-grows i (suc d) = let e : i + suc d ≡ suc (i + d) = omega arith in omega (arith, ap (howMany p) e, many-suc (i + d), many-grows i d)
+
+  pub many-upto : (i n : ℕ) → i ≤ n → howMany p i ≤ howMany p n
+  many-upto i n l = let e : i + (n - i) ≡ n = omega arith in omega (arith, ap (howMany p) (sym e), many-grows i (n - i))
+
+pub bit-of : (slots : List ℕ) (w : Window) (i : ℕ) (t : Bool) (n : ℕ) → t ≡ freeAt slots (w .present) (w .first + i) (w .timeout) → n ≡ one t → n ≡ one (freeIn slots w i)
+unfolding freeIn
+bit-of slots w i t n e q = q ∙ ap one e
+
+pub four-free : (slots : List ℕ) (w : Window) (i n : ℕ) → n ≡ howMany (freeIn slots w) (i + 1) → i < w .width → n ≡ 4 → 4 ≡ freeUptoFour slots w
+unfolding freeUptoFour
+four-free slots w i n e l f = omega (arith, many-upto (freeIn slots w) (i + 1) (w .width) (omega arith))
+
+pub few-free : (slots : List ℕ) (w : Window) (i n : ℕ) → n ≡ howMany (freeIn slots w) i → i ≡ w .width → n < 4 → n ≡ freeUptoFour slots w
+unfolding freeUptoFour
+few-free slots w i n e q l = omega (arith, ap (howMany (freeIn slots w)) q)
+
+-- ---- a holder that is to be looked at
+
+pub new-none : (h last : ℕ) → h ≡ 0 → 0 ≡ one (isNew h last)
+unfolding isNew isNone
+new-none h last e = sym (one-false (simp (eq-eqb h 0 e)))
+
+pub new-same : (h last : ℕ) → (h ≡ 0 → ⊥) → h ≡ last → 0 ≡ one (isNew h last)
+unfolding isNew isNone
+new-same h last n e = sym (one-false (simp (ne-eqb h 0 n, eq-eqb h last e)))
+
+pub new-yes : (h last : ℕ) → (h ≡ 0 → ⊥) → (h ≡ last → ⊥) → 1 ≡ one (isNew h last)
+unfolding isNew isNone
+new-yes h last n e = sym (one-true (simp (ne-eqb h 0 n, ne-eqb h last e)))
+
+-- ---- a holder's record, and its level
+
+module _ (h : ℕ) where
+  pub record-yes : (h ≡ 0 → ⊥) → h < ours → isRecord h ≡ true
+  unfolding isRecord
+  record-yes p l = simp (lt-ltb 0 h (omega (arith, p)), lt-ltb h ours l)
+
+  pub record-none : h ≡ 0 → isRecord h ≡ false
+  unfolding isRecord
+  record-none e = simp (le-ltb 0 h (omega arith))
+
+  pub record-over : (h ≡ 0 → ⊥) → ours ≤ h → isRecord h ≡ false
+  unfolding isRecord
+  record-over p l = simp (lt-ltb 0 h (omega (arith, p)), le-ltb h ours l)
+
+  pub place-none : h ≡ 0 → 0 ≡ recordOf h
+  unfolding recordOf
+  place-none e = simp (record-none e)
+
+  pub place-record : (h ≡ 0 → ⊥) → h < ours → h - 1 ≡ recordOf h
+  unfolding recordOf
+  place-record p l = simp (record-yes p l)
+
+  pub place-over : (h ≡ 0 → ⊥) → ours ≤ h → 0 ≡ recordOf h
+  unfolding recordOf
+  place-over p l = simp (record-over p l)
+
+  module _ (s : Station) (x : Slot) where
+    pub level-none : h ≡ 0 → top ≡ levelBy s h x
+    unfolding levelBy isNone
+    level-none e = simp (eq-eqb h 0 e)
+
+    module _ (p : h ≡ 0 → ⊥) where
+      pub level-own : h ≡ ours → ownLevel ≡ levelBy s h x
+      unfolding levelBy isNone isOwn
+      level-own e = simp (ne-eqb h 0 p, eq-eqb h ours e)
+
+      module _ (o : h ≡ ours → ⊥) where
+        pub level-record : h < ours → levelOf (x .ship) s ≡ levelBy s h x
+        unfolding levelBy isNone isOwn
+        level-record l = simp (ne-eqb h 0 p, ne-eqb h ours o, record-yes p l)
+
+        pub level-other : ours ≤ h → baseLevel ≡ levelBy s h x
+        unfolding levelBy isNone isOwn
+        level-other l = simp (ne-eqb h 0 p, ne-eqb h ours o, record-over p l)
+
+-- a record's place is in the register
+pub place-inside : (h : ℕ) → recordOf h < 255
+place-inside h = go (ℕ-discrete h 0) (decLt h ours)
+  where
+    go : Dec (h ≡ 0) → Dec (h < ours) → recordOf h < 255
+    go (yes e) q = omega (arith, place-none h e)
+    go (no e) (yes l) = omega (arith, place-record h e l)
+    go (no e) (no l) = omega (arith, place-over h e (omega arith))
+
+-- ---- a worth
+
+module _ (t : Bool) (low : ℕ) where
+  pub worth-earlier : t ≡ true → 0 ≡ worthBy t low
+  unfolding worthBy
+  worth-earlier e = simp e
+
+  module _ (f : t ≡ false) where
+    pub worth-free : low ≡ top → top ≡ worthBy t low
+    unfolding worthBy
+    worth-free e = simp (f, eq-eqb low top e)
+
+    pub worth-held : (low ≡ top → ⊥) → low - heldOffLevel ≡ worthBy t low
+    unfolding worthBy
+    worth-held e = simp (f, ne-eqb low top e)
+
+-- ---- the slot of a window as it is to be looked at
+
+module _ (slots : List ℕ) (w : Window) (p : Ship) (i : ℕ) where
+  pub slot-idle : earlier slots (w .present) (w .first + i) ≡ true → idle p ≡ slotOf slots w p i
+  unfolding slotOf
+  slot-idle e = simp e
+
+  pub slot-held : earlier slots (w .present) (w .first + i) ≡ false → (g : Held)
+      → g ≡ gathered (frame slots (w .present) (w .first + i)) (w .timeout + 1) → heldSlot p g ≡ slotOf slots w p i
+  unfolding slotOf
+  slot-held e g q = ap (heldSlot p) q ∙ simp e
+
+-- ---- a candidate
+
+module _ (slots : List ℕ) (w : Window) (f : ℕ) (b : Best) (i : ℕ) where
+  pub candidate-reused : reusedBy f b i ≡ true → 1 ≡ one (candidateBy slots w f b i)
+  unfolding candidateBy
+  candidate-reused e = sym (one-true (ap (λ (t : Bool). either t (freeIn slots w i)) e))
+
+  pub candidate-free : reusedBy f b i ≡ false → one (freeIn slots w i) ≡ one (candidateBy slots w f b i)
+  unfolding candidateBy
+  candidate-free e = ap one (sym (ap (λ (s : Bool). either s (freeIn slots w i)) e))

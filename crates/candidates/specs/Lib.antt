@@ -1,5 +1,6 @@
 pub mod Slot
 pub mod Window
-pub mod Rounds
 pub mod Choice
 pub mod Promises
+pub mod Rounds
+pub mod Scanning

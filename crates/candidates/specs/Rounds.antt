@@ -5,23 +5,10 @@
 use Prim.Native.Nat.{ℕ, zero, suc, _+_, _-_, _*_, min, max}
 use mathlib.Core.Path.{_≡_}
 use mathlib.Core.Bool.{Bool}
-use mathlib.Core.List.{List}
 use lib.Dec.{leb, ltb, eqb}
 use Rattle.laws.specs.Tests.{pick, both, either}
-use Rattle.laws.specs.Counting.{one}
-use Rattle.laws.specs.Ranges.{least}
 use Rattle.candidates.specs.declared.rounds.Best.{Best}
-use Rattle.distance.specs.Distance.{never}
-use Rattle.candidates.specs.Slot.{isNone, isOwn, gap, frame}
-use Rattle.candidates.specs.Window.{top, isFree, isAvailable, free}
-
--- ---- the state of a slot by the lowest level of its times: 0 own, 1 not to be reused, d + 2 at the distance d, top nobody's
-
-unfoldable pub level : List ℕ → ℕ → ℕ
-level reach h = pick (isNone h) top (pick (isOwn h) 0 (pick (eqb (gap reach h) never) 1 (gap reach h + 2)))
-
-abbrev pub lowest : List ℕ → List ℕ → ℕ → ℕ → ℕ → ℕ
-lowest slots reach present at = least top (λ i. level reach (frame slots present at i))
+use Rattle.candidates.specs.Window.{isFree, isAvailable}
 
 -- ---- rounds
 
@@ -43,7 +30,7 @@ below f c (suc n) = max (below f c n) (cap c (f n))
 
 -- above every key
 abbrev pub aboveAll : ℕ
-aboveAll = 4398046511104
+aboveAll = 18446744073709551616
 
 -- the cut after k rounds over n keys
 unfoldable pub cutOf : (ℕ → ℕ) → ℕ → ℕ → ℕ
@@ -63,26 +50,24 @@ inCut ws c i = within c (ws i) i
 unfoldable pub betterOf : Best → ℕ → ℕ → Best
 betterOf b w i =
     record {
-      free = b .free + one (isFree w);
       first = max (b .first) (keyOf w i);
       second = max (b .second) (min (b .first) (keyOf w i));
       third = max (b .third) (min (b .second) (keyOf w i));
       fourth = max (b .fourth) (min (b .third) (keyOf w i));
     }
 
--- of the first n slots so many are free, and these are the cuts after one to four rounds
+-- the four greatest keys of the first n slots are the cuts after one to four rounds
 pub record BestIn (ws : ℕ → ℕ) (n : ℕ) (b : Best) : Type 0 where
-  pub frees : b .free ≡ free ws n
   pub one : b .first ≡ cutOf (keys ws) n 1
   pub two : b .second ≡ cutOf (keys ws) n 2
   pub three : b .third ≡ cutOf (keys ws) n 3
   pub four : b .fourth ≡ cutOf (keys ws) n 4
 
--- the cut after as many rounds as slots are needed beside the free ones
-unfoldable pub cutAfter : Best → ℕ
-cutAfter b =
-    pick (ltb 3 (b .free)) aboveAll
-    (pick (eqb (b .free) 3) (b .first)
-    (pick (eqb (b .free) 2) (b .second)
-    (pick (eqb (b .free) 1) (b .third)
+-- the cut after as many rounds as slots are needed beside f free ones
+unfoldable pub cutAfter : ℕ → Best → ℕ
+cutAfter f b =
+    pick (ltb 3 f) aboveAll
+    (pick (eqb f 3) (b .first)
+    (pick (eqb f 2) (b .second)
+    (pick (eqb f 1) (b .third)
     (b .fourth))))

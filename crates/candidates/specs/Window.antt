@@ -8,20 +8,21 @@ use lib.ListN.{length, getD}
 use lib.Dec.{eqb, ltb}
 use Rattle.laws.specs.Tests.{pick, both, either}
 use Rattle.laws.specs.Ranges.{howMany, those}
+use Rattle.distance.specs.Distance.{top}
 use Rattle.candidates.specs.declared.SlotState.{SlotState}
-use Rattle.candidates.specs.declared.SlotState.the-variants.{Own, Earlier, Free, Far, Barred}
+use Rattle.candidates.specs.declared.SlotState.the-variants.{Own, Earlier, Free, OwnUnknown, Base, Unknown, HeldOff, Far}
 use Rattle.candidates.specs.declared.Picked.{Picked}
-use Rattle.candidates.specs.declared.Picked.the-variants.{At, NoCandidate, SentBack}
-
-abbrev pub top : ℕ
-top = 8589934592
+use Rattle.candidates.specs.declared.Picked.the-variants.{At, NoCandidate, SentBack, Taken}
 
 abbrev pub worth : SlotState → ℕ
 worth Own = 0
 worth Earlier = 0
 worth Free = top
+worth OwnUnknown = 0
+worth Base = 0
+worth Unknown = 0
+worth HeldOff = 0
 worth (Far d) = d + 1
-worth Barred = 0
 
 unfoldable pub isFree : ℕ → Bool
 isFree w = eqb w top
@@ -66,22 +67,26 @@ abbrev pub isNo : Picked → Bool
 isNo (At x n) = false
 isNo NoCandidate = true
 isNo SentBack = false
+isNo Taken = false
 
 abbrev pub isBack : Picked → Bool
 isBack (At x n) = false
 isBack NoCandidate = false
 isBack SentBack = true
+isBack Taken = false
 
 -- the slot that is picked, and out of how many
 abbrev pub distanceIn : Picked → ℕ
 distanceIn (At x n) = x
 distanceIn NoCandidate = 0
 distanceIn SentBack = 0
+distanceIn Taken = 0
 
 abbrev pub numberIn : Picked → ℕ
 numberIn (At x n) = n
 numberIn NoCandidate = 0
 numberIn SentBack = 0
+numberIn Taken = 0
 
 -- ---- what the theorems speak of
 
@@ -90,3 +95,4 @@ abbrev pub isAt : ℕ → Picked → Bool
 isAt x (At y n) = eqb y x
 isAt x NoCandidate = false
 isAt x SentBack = false
+isAt x Taken = false

@@ -1,32 +1,36 @@
-// The candidates without ranks: how many slots are free, the four best keys of available ones, and the cut that a key has to reach. Promise: as
-// specs/Rounds.antt says; that these are the candidates by rank is proved in proofs/Ranking.antt and proofs/Four.antt.
+// The candidates without ranks: the four best keys of available slots tell which of them are needed beside the free ones, since a key ends in its slot's place.
+// Promise: as specs/Rounds.antt and specs/Scanning.antt say; that these are the candidates by rank is proved in proofs/Ranking.antt, proofs/Four.antt and
+// proofs/Cutting.antt.
 ghost use mathlib.Core.Path.{_≡_};
 ghost use Prim.Native.Nat.{_+_, _≤_, _<_, max};
 ghost use lib.ListN.{length};
 ghost use Rattle.laws.specs.Counting.{one};
-ghost use Rattle.limits.specs.Limits.{frameSlots, slotTimes, records, widest, mostTimeOut};
-ghost use Rattle.candidates.specs.Window.{isFree};
-ghost use Rattle.candidates.specs.Rounds.{keyOf, within, betterOf, cutAfter, BestIn};
-ghost use Rattle.candidates.specs.Choice.{worthIn};
+ghost use Rattle.limits.specs.Limits.{frameSlots, slotTimes, widest, mostTimeOut};
+ghost use Rattle.candidates.specs.Rounds.{keyOf, betterOf};
+ghost use Rattle.candidates.specs.Scanning.{noneYet, keyHits, reusedBy, candidateBy};
 use crate::Window;
-use crate::slot::TOP;
+use crate::slot::free_bit;
 use crate::slot::smaller;
-use crate::slot::worth_at;
+use distance::TOP;
 
-// The number of free slots, and the four greatest keys, 0 where there are fewer.
+// The four greatest keys, 0 where there are fewer.
 pub struct Best {
-    pub free: usize,
     pub first: u64,
     pub second: u64,
     pub third: u64,
     pub fourth: u64,
 }
 
-// 1 where the slot is free, else 0.
-fn free_bit(w: u64) -> usize
-    ensures { λ r. ⌜ r ≡ one (isFree w) ⌝ }
+// No slot yet.
+pub fn none_yet() -> Best
+    ensures { λ r. ⌜ r ≡ noneYet ⌝ }
 {
-    if w == TOP { 1 } else { 0 }
+    Best {
+        first: 0,
+        second: 0,
+        third: 0,
+        fourth: 0,
+    }
 }
 
 // The key of the slot i with the worth w: greater for a farther slot, and for an earlier one as far.
@@ -50,27 +54,19 @@ fn larger(a: u64, b: u64) -> u64
 }
 
 // With the slot i of the worth w: each key is the greater of what it was and what the new one pushes down.
-fn better(b: Best, w: u64, i: usize) -> Best
-    requires { ⌜ (b .free ≤ i) × (i < widest) ⌝ }
+pub fn better(b: Best, w: u64, i: usize) -> Best
+    requires { ⌜ i < widest ⌝ }
     ensures { λ r. ⌜ r ≡ betterOf b w i ⌝ }
 {
-    let free = b.free + free_bit(w);
     let k = key(w, i);
     if k == 0 {
-        return Best {
-            free,
-            first: b.first,
-            second: b.second,
-            third: b.third,
-            fourth: b.fourth,
-        };
+        return b;
     }
     let first = larger(b.first, k);
     let second = larger(b.second, smaller(b.first, k));
     let third = larger(b.third, smaller(b.second, k));
     let fourth = larger(b.fourth, smaller(b.third, k));
     Best {
-        free,
         first,
         second,
         third,
@@ -78,60 +74,52 @@ fn better(b: Best, w: u64, i: usize) -> Best
     }
 }
 
-// The best of the whole window, in one pass.
-pub fn best_of(book: &[u16], reach: &[u32], v: Window) -> Best
-    requires { ⌜ (length (now book) ≡ slotTimes) × ((length (now reach) ≡ records) × ((v .first ≤ frameSlots) × ((v .timeout < mostTimeOut + 1) × (v .width ≤ widest)))) ⌝ }
-    ensures { λ r. ⌜ BestIn (worthIn (now (book .entry)) (now (reach .entry)) v) (v .width) r ⌝ }
+// Whether the slot i is that of the key k.
+fn hits(k: u64, i: usize) -> bool
+    ensures { λ r. ⌜ r ≡ keyHits k i ⌝ }
 {
-    let mut b = Best {
-        free: 0,
-        first: 0,
-        second: 0,
-        third: 0,
-        fourth: 0,
-    };
-    let mut i: usize = 0;
-    while i < v.width {
-        let w = worth_at(book, reach, v, i);
-        b = better(b, w, i);
-        i += 1;
+    if k == 0 {
+        return false;
     }
-    b
+    let at = 511 - k % 512;
+    at as usize == i
 }
 
-// The key of the last available slot that is needed beside the free ones to make four; above every key where none is needed, and 0 where all are.
-pub fn cut(b: Best) -> u64
-    ensures { λ r. ⌜ r ≡ cutAfter b ⌝ }
+// Whether the slot i is one of the best, as many as are needed beside the free ones.
+fn reused(free: usize, b: Best, i: usize) -> bool
+    ensures { λ r. ⌜ r ≡ reusedBy free b i ⌝ }
 {
-    if b.free > 3 {
-        return 4398046511104;
+    if free > 3 {
+        return false;
     }
-    if b.free == 3 {
-        return b.first;
+    if hits(b.first, i) {
+        return true;
     }
-    if b.free == 2 {
-        return b.second;
+    if free > 2 {
+        return false;
     }
-    if b.free == 1 {
-        return b.third;
+    if hits(b.second, i) {
+        return true;
     }
-    b.fourth
+    if free > 1 {
+        return false;
+    }
+    if hits(b.third, i) {
+        return true;
+    }
+    if free > 0 {
+        return false;
+    }
+    hits(b.fourth, i)
 }
 
-// 1 where the slot i with the worth w is free, or available and not below the cut, else 0.
-pub fn within_bit(c: u64, w: u64, i: usize) -> usize
-    requires { ⌜ i < 512 ⌝ }
-    ensures { λ r. ⌜ r ≡ one (within c w i) ⌝ }
+// 1 where the slot i of the window is a candidate, else 0.
+pub fn candidate_bit(book: &[u16], w: Window, free: usize, b: Best, i: usize) -> usize
+    requires { ⌜ (length (now book) ≡ slotTimes) × ((w .first ≤ frameSlots) × ((w .timeout < mostTimeOut + 1) × (i < widest))) ⌝ }
+    ensures { λ r. ⌜ r ≡ one (candidateBy (now (book .entry)) w free b i) ⌝ }
 {
-    if w == TOP {
+    if reused(free, b, i) {
         return 1;
     }
-    let k = key(w, i);
-    if k == 0 {
-        return 0;
-    }
-    if k < c {
-        return 0;
-    }
-    1
+    free_bit(book, w, i)
 }

@@ -1,23 +1,43 @@
-// The state of a slot with its later frames, and its worth for the choice. Promise: as specs/Slot.antt and specs/Window.antt say.
+// A slot with its later frames: what the book alone tells of it, the holders that are to be looked up, and what is asked of each of these. Promise: as
+// specs/Scanning.antt says.
 ghost use mathlib.Core.Path.{_≡_};
 ghost use Prim.Native.Nat.{_+_, _%_, _≤_, _<_, min};
 ghost use lib.ListN.{length};
-ghost use Rattle.limits.specs.Limits.{frameSlots, slotTimes, records, widest, mostTimeOut};
-ghost use Rattle.candidates.specs.Slot.{earlier, stateOf};
-ghost use Rattle.candidates.specs.Window.{worth};
-ghost use Rattle.candidates.specs.Rounds.{level, lowest};
-ghost use Rattle.candidates.specs.Choice.{worthIn};
-use crate::SlotState;
+ghost use Rattle.laws.specs.Counting.{one};
+ghost use Rattle.limits.specs.Limits.{frameSlots, slotTimes, widest, mostTimeOut};
+ghost use Rattle.distance.specs.Distance.{top};
+ghost use Rattle.candidates.specs.Slot.{frame, earlier};
+ghost use Rattle.candidates.specs.Scanning.{worthBy, isNew, gathered, slotOf, freeAt, freeIn, freeUptoFour, recordOf, levelBy, holderIn};
 use crate::Window;
 use book::NONE;
 use book::OWN;
 use book::place;
-use distance::NEVER;
+use distance::BASE;
+use distance::HELD_OFF;
+use distance::TOP;
+use distance::level;
 use limits::FRAME;
+use limits::MOST_TIME_OUT;
 use limits::SLOT_TIMES;
+use ship::Ship;
+use ship::Station;
 
-// The worth of a free slot.
-pub const TOP: u64 = 8589934592;
+// The times of a slot at the most.
+const TIMES: usize = MOST_TIME_OUT + 1;
+
+// Holders, and how many of them count.
+pub struct Held {
+    pub holders: [u16; TIMES],
+    pub times: usize,
+}
+
+// A slot: the holders to be looked at, how many they are, whether the slot a frame earlier is own; and our ship.
+pub struct Slot {
+    pub holders: [u16; TIMES],
+    pub times: usize,
+    pub earlier: bool,
+    pub ship: Ship,
+}
 
 pub fn smaller(a: u64, b: u64) -> u64
     ensures { λ r. ⌜ r ≡ min a b ⌝ }
@@ -25,27 +45,7 @@ pub fn smaller(a: u64, b: u64) -> u64
     if a < b { a } else { b }
 }
 
-// The level of a holder: 0 own, 1 not to be reused, its distance + 2, or nobody.
-fn level_of(reach: &[u32], h: u16) -> u64
-    requires { ⌜ length (now reach) ≡ records ⌝ }
-    ensures { λ r. ⌜ r ≡ level (now (reach .entry)) h ⌝ }
-{
-    if h == NONE {
-        return TOP;
-    }
-    if h == OWN {
-        return 0;
-    }
-    if h < OWN {
-        let k = (h - 1) as usize;
-        let d = reach[k];
-        if d == NEVER {
-            return 1;
-        }
-        return d as u64 + 2;
-    }
-    1
-}
+// ---- by the book alone
 
 // The place a frame after this one, counted round the list.
 fn frame_on(p: usize) -> usize
@@ -56,22 +56,6 @@ fn frame_on(p: usize) -> usize
         return p + FRAME;
     }
     p - (SLOT_TIMES - FRAME)
-}
-
-// The lowest level of the times at `at` ahead and m frames after.
-fn lowest_of(book: &[u16], reach: &[u32], present: usize, at: usize, m: usize) -> u64
-    requires { ⌜ (length (now book) ≡ slotTimes) × ((length (now reach) ≡ records) × ((at < (frameSlots + widest)) × (m < mostTimeOut + 1))) ⌝ }
-    ensures { λ r. ⌜ r ≡ lowest (now (book .entry)) (now (reach .entry)) present at (m + 1) ⌝ }
-{
-    let mut low: u64 = TOP;
-    let mut p = place(present, at);
-    let mut i: usize = 0;
-    while i <= m {
-        low = smaller(low, level_of(reach, book[p]));
-        p = frame_on(p);
-        i += 1;
-    }
-    low
 }
 
 // Whether the slot a frame earlier is in the book and own.
@@ -86,45 +70,189 @@ fn own_earlier(book: &[u16], present: usize, at: usize) -> bool
     book[p] == OWN
 }
 
-// The state of the slot `at` ahead with its m later frames.
-pub fn state_of(book: &[u16], reach: &[u32], present: usize, at: usize, m: usize) -> SlotState
-    requires { ⌜ (length (now book) ≡ slotTimes) × ((length (now reach) ≡ records) × ((at < (frameSlots + widest)) × (m < mostTimeOut + 1))) ⌝ }
-    ensures { λ r. ⌜ r ≡ stateOf (now (book .entry)) (now (reach .entry)) present at m ⌝ }
+// Whether all times of a slot are nobody's, and the slot a frame earlier is not own.
+fn free_at(book: &[u16], present: usize, at: usize, m: usize) -> bool
+    requires { ⌜ (length (now book) ≡ slotTimes) × ((at < (frameSlots + widest)) × (m < mostTimeOut + 1)) ⌝ }
+    ensures { λ r. ⌜ r ≡ freeAt (now (book .entry)) present at m ⌝ }
 {
-    let low = lowest_of(book, reach, present, at, m);
-    if low == 0 {
-        return SlotState::Own;
-    }
     if own_earlier(book, present, at) {
-        return SlotState::Earlier;
+        return false;
+    }
+    let mut p = place(present, at);
+    let mut i: usize = 0;
+    while i <= m {
+        if book[p] != NONE {
+            return false;
+        }
+        p = frame_on(p);
+        i += 1;
+    }
+    true
+}
+
+// 1 where the slot i of the window is free, else 0.
+pub fn free_bit(book: &[u16], w: Window, i: usize) -> usize
+    requires { ⌜ (length (now book) ≡ slotTimes) × ((w .first ≤ frameSlots) × ((w .timeout < mostTimeOut + 1) × (i < widest))) ⌝ }
+    ensures { λ r. ⌜ r ≡ one (freeIn (now (book .entry)) w i) ⌝ }
+{
+    if free_at(book, w.present, w.first + i, w.timeout) {
+        return 1;
+    }
+    0
+}
+
+// How many slots of the window are free. More than four make no difference, so counting stops there.
+pub fn free_upto_four(book: &[u16], w: Window) -> usize
+    requires { ⌜ (length (now book) ≡ slotTimes) × ((w .first ≤ frameSlots) × ((w .timeout < mostTimeOut + 1) × (w .width ≤ widest))) ⌝ }
+    ensures { λ r. ⌜ r ≡ freeUptoFour (now (book .entry)) w ⌝ }
+{
+    let mut n: usize = 0;
+    let mut i: usize = 0;
+    while i < w.width {
+        n += free_bit(book, w, i);
+        if n == 4 {
+            return 4;
+        }
+        i += 1;
+    }
+    n
+}
+
+// 1 where the holder h is to be looked at, the frame before being held by `last`: a holder that stays is looked at once.
+fn new_bit(h: u16, last: u16) -> usize
+    ensures { λ r. ⌜ r ≡ one (isNew h last) ⌝ }
+{
+    if h == NONE {
+        return 0;
+    }
+    if h == last {
+        return 0;
+    }
+    1
+}
+
+// The holders of a slot that are to be looked at.
+fn gather(book: &[u16], present: usize, at: usize, m: usize) -> Held
+    requires { ⌜ (length (now book) ≡ slotTimes) × ((at < (frameSlots + widest)) × (m < mostTimeOut + 1)) ⌝ }
+    ensures { λ r. ⌜ r ≡ gathered (frame (now (book .entry)) present at) (m + 1) ⌝ }
+{
+    let mut holders = [NONE; TIMES];
+    let mut times: usize = 0;
+    let mut last = NONE;
+    let mut p = place(present, at);
+    let mut i: usize = 0;
+    while i <= m {
+        let h = book[p];
+        holders[times] = h;
+        times += new_bit(h, last);
+        last = h;
+        p = frame_on(p);
+        i += 1;
+    }
+    Held { holders, times }
+}
+
+// The slot i of the window: nothing is to be looked at where the slot a frame earlier is own.
+pub fn slot_of(book: &[u16], w: Window, ship: Ship, i: usize) -> Slot
+    requires { ⌜ (length (now book) ≡ slotTimes) × ((w .first ≤ frameSlots) × ((w .timeout < mostTimeOut + 1) × (i < widest))) ⌝ }
+    ensures { λ r. ⌜ r ≡ slotOf (now (book .entry)) w ship i ⌝ }
+{
+    let at = w.first + i;
+    if own_earlier(book, w.present, at) {
+        let holders = [NONE; TIMES];
+        return Slot {
+            holders,
+            times: 0,
+            earlier: true,
+            ship,
+        };
+    }
+    let g = gather(book, w.present, at, w.timeout);
+    let holders = g.holders;
+    Slot {
+        holders,
+        times: g.times,
+        earlier: false,
+        ship,
+    }
+}
+
+// ---- by a holder's record
+
+// The place of a holder's record; 0 for one without.
+pub fn record_of(h: u16) -> usize
+    ensures { λ r. ⌜ r ≡ recordOf h ⌝ }
+{
+    if h == NONE {
+        return 0;
+    }
+    if h < OWN {
+        return (h - 1) as usize;
+    }
+    0
+}
+
+// The level of the holder h with the record s. One without a record counts as a base station.
+pub fn level_by(s: Station, h: u16, x: Slot) -> u64
+    ensures { λ r. ⌜ r ≡ levelBy s h x ⌝ }
+{
+    if h == NONE {
+        return TOP;
+    }
+    if h == OWN {
+        return distance::OWN;
+    }
+    if h < OWN {
+        let ship = x.ship;
+        return level(ship, s);
+    }
+    BASE
+}
+
+// ---- a slot's holders, one by one
+
+// No holder yet: the level of nobody's.
+pub fn nobodys(x: Slot) -> u64
+    ensures { λ r. ⌜ r ≡ top ⌝ }
+{
+    TOP
+}
+
+pub fn times(x: Slot) -> usize
+    ensures { λ r. ⌜ r ≡ x .times ⌝ }
+{
+    x.times
+}
+
+// The holder i.
+pub fn holder(book: &[u16], x: Slot, i: usize) -> u16
+    requires { ⌜ i < 8 ⌝ }
+    ensures { λ r. ⌜ r ≡ holderIn x i ⌝ }
+{
+    let holders = x.holders;
+    holders[i]
+}
+
+// With one holder more, of this level.
+pub fn lower(low: u64, h: u16, l: u64, x: Slot, i: usize) -> u64
+    requires { ⌜ i < 8 ⌝ }
+    ensures { λ r. ⌜ r ≡ min low l ⌝ }
+{
+    smaller(low, l)
+}
+
+// The worth of a slot by the lowest level of its holders.
+pub fn worth_by(earlier: bool, low: u64) -> u64
+    ensures { λ r. ⌜ r ≡ worthBy earlier low ⌝ }
+{
+    if earlier {
+        return 0;
     }
     if low == TOP {
-        return SlotState::Free;
+        return TOP;
     }
-    if low == 1 {
-        return SlotState::Barred;
+    if low <= HELD_OFF {
+        return 0;
     }
-    SlotState::Far((low - 2) as u32)
-}
-
-// A state as a number that the choice compares.
-fn worth_of(s: SlotState) -> u64
-    ensures { λ r. ⌜ r ≡ worth s ⌝ }
-{
-    match s {
-        SlotState::Free => TOP,
-        SlotState::Far(d) => d as u64 + 1,
-        SlotState::Own => 0,
-        SlotState::Earlier => 0,
-        SlotState::Barred => 0,
-    }
-}
-
-// The worth of the slot i of the window.
-pub fn worth_at(book: &[u16], reach: &[u32], v: Window, i: usize) -> u64
-    requires { ⌜ (length (now book) ≡ slotTimes) × ((length (now reach) ≡ records) × ((v .first ≤ frameSlots) × ((v .timeout < mostTimeOut + 1) × (i < widest)))) ⌝ }
-    ensures { λ r. ⌜ r ≡ worthIn (now (book .entry)) (now (reach .entry)) v i ⌝ }
-{
-    let s = state_of(book, reach, v.present, v.first + i, v.timeout);
-    worth_of(s)
+    low - HELD_OFF
 }

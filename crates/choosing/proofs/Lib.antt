@@ -1,5 +1,11 @@
-pub mod Owning
 pub mod Meaning
-pub mod Answers
-pub mod Replacing
+pub mod Asking
+pub mod Drawing
+pub mod Data
+pub mod Loops
 pub mod Promised
+pub mod Frames
+pub mod Owning
+pub mod Choosing
+pub mod Chosen
+pub mod HoldingOff

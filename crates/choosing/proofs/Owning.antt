@@ -1,43 +1,43 @@
--- A hold-off by the holder's number, and a held time by its holder.
--- Assumes nothing.
-use mathlib.Core.Path.{_≡_, sym, ap, _∙_}
-use mathlib.Core.List.{List}
-use Prim.Native.Nat.{ℕ, suc, _-_, _<_}
+-- The run over the frames of an own slot, as the theorem on walks takes it. Assumes nothing.
+use mathlib.Core.Path.{_≡_, _∙_}
 use native.Mathlib.Omega.{arith}
-use borrow.Author.Tests.{eq-eqb, ne-eqb}
-use lib.ListN.{length, getD, set}
-use lib.Seq.{set-out}
-use Rattle.laws.specs.Counting.{one}
-use Rattle.book.specs.Book.{place}
-use Rattle.candidates.specs.Slot.{isNone, holderAt}
-use Rattle.choosing.specs.Own.{held, heldOff, heldAt}
+use borrow.Author.Tests.{ltb-true, ltb-false}
+use lib.Dec.{ltb}
+use lib.ListN.{length}
+use Rattle.limits.specs.Limits.{records}
+use Rattle.register.specs.Register.{lostIn, wonIn}
+use Rattle.register.proofs.Data.{TurnD}
+use Rattle.walks.specs.Out.{Ends}
+use Rattle.walks.proofs.Walking.{Meaning, Enough}
+use Rattle.choosing.specs.Owning.{started, Steps, OwnsOne, replyOf, Owns, ownedOut}
+use Rattle.choosing.proofs.Data.{OwningD, ReplyD}
+use Rattle.choosing.proofs.Frames as Frames
 
-module _ (o : List ℕ) (h : ℕ) where
-  -- nobody is held off
-  pub off-none : h ≡ 0 → o ≡ heldOff o h
-  unfolding heldOff
-  off-none e = rw e
+abbrev pub ofFrames : Meaning OwningD TurnD ReplyD
+ofFrames = record {
+  start = started;
+  more = λ t. ltb 0 (t .left);
+  NeedStep = λ bs t o. Steps bs t;
+  Steps = OwnsOne;
+  NeedChange = λ ys t. length ys ≡ records;
+  lose = lostIn;
+  win = wonIn;
+  end = replyOf;
+  Need = Owns;
+  Says = λ o ys bs r zs cs. Ends (ownedOut o ys bs) r zs cs;
+}
 
-  -- a station is
-  pub off-station : 0 < h → set o (h - 1) held ≡ heldOff o h
-  unfolding heldOff
-  off-station p = let e : h ≡ suc (h - 1) = omega arith in ap (heldOff o) (sym e)
-
-  -- a number that is no station's changes nothing
-  pub off-other : length o < h → o ≡ heldOff o h
-  unfolding heldOff
-  off-other p =
-      let e : h ≡ suc (h - 1) = omega arith in
-      sym (set-out o (h - 1) held (omega arith)) ∙ ap (heldOff o) (sym e)
-
--- the time d ahead is at the place p
-module _ (slots : List ℕ) (present d p : ℕ) (is : p ≡ place present d) where
-  -- nobody holds it
-  pub bit-none : getD slots p 0 ≡ 0 → 0 ≡ heldAt slots present d
-  unfolding heldAt isNone holderAt one
-  bit-none e = rw (eq-eqb (getD slots (place present d) 0) 0 (rw is at e))
-
-  -- someone does
-  pub bit-held : (getD slots p 0 ≡ 0 → ⊥) → 1 ≡ heldAt slots present d
-  unfolding heldAt isNone holderAt one
-  bit-held n = rw (ne-eqb (getD slots (place present d) 0) 0 (rw is at n))
+pub frames-enough : Enough ofFrames
+frames-enough = record {
+  I = λ o ys bs t zs cs. Frames.Going (o .drawn) o ys bs t zs cs;
+  left = λ t. t .left;
+  starts = λ o ys bs need. Frames.starts (o .drawn) o ys bs;
+  for-step = λ o ys bs t zs cs need same i e.
+      Frames.for-step o ys bs t zs cs (o .drawn) i (need .inside) (same .book ∙ need .size) (ltb-true 0 (t .left) e);
+  for-lose = λ o ys bs t zs cs u ds need same i e st same′. same .reg ∙ need .register;
+  for-win = λ o ys bs t zs cs u ds need same i e st same′. same′ .reg ∙ need .register;
+  turns = λ o ys bs t zs cs u ds need same i e st same′.
+      Frames.turns o ys bs t zs cs (o .drawn) i (need .inside) (ltb-true 0 (t .left) e) u ds st (same .reg ∙ need .register);
+  nearer = λ o ys bs t zs cs u ds need same i e st. let less = st .less in omega arith;
+  ends = λ o ys bs t zs cs need same i e. Frames.ends o ys bs t zs cs (o .drawn) i (omega (arith, ltb-false 0 (t .left) e));
+}

@@ -1,163 +1,151 @@
--- The call that chooses: one answer, each number exactly when, what is chosen, that demand 3 stays, and who is held off.
+-- What is promised of choosing (specs/Promises.antt).
 -- Assumes nothing.
 use mathlib.Core.Path.{_≡_, refl, sym, ap, subst, _∙_}
-use mathlib.Core.Bool.{true, false, true≢false}
-use mathlib.Core.List.{[], _∷_}
-use Prim.Native.Nat.{_+_, _*_, _≤_, _<_}
+use mathlib.Core.Bool.{Bool, true, false}
+use mathlib.Core.List.{List}
+use Prim.Native.Nat.{ℕ, _+_, _≤_, _<_}
 use native.Mathlib.Omega.{arith}
-use borrow.Author.Tests.{lt-ltb}
-use lib.Dec.{ltb}
-use lib.ListN.{getD}
-use Rattle.laws.specs.Tests.{between}
-use Rattle.laws.proofs.Tests.{was-false, both-right, between-is}
-use Rattle.laws.specs.Exactly.{AllHold}
-use Rattle.laws.proofs.Ladder.{stops-there, all-through, all-answered, by-tests}
-use Rattle.laws.proofs.Unique.{unique}
-use Rattle.limits.specs.Limits.{frameSlots, slotTimes, leastTimeOut, mostTimeOut}
-use Rattle.plan.specs.declared.Plan.{Plan}
-use Rattle.book.specs.declared.Standing.{Standing}
-use Rattle.book.specs.Book.{bookOf, countsOf}
-use Rattle.book.specs.Sound.{Sound}
-use Rattle.book.proofs.Once.{parts-make}
+use Rattle.laws.specs.Tests.{pick}
+use Rattle.laws.proofs.Tests.{by-test}
+use Rattle.limits.specs.Limits.{widest, mostTimeOut}
+use Rattle.ship.specs.declared.Station.{Station}
+use Rattle.book.specs.declared.Watch.{Watch}
+use Rattle.walks.proofs.Folds.{folded-none}
+use Rattle.distance.specs.Distance.{weKnown}
+use Rattle.candidates.specs.declared.Window.{Window}
 use Rattle.candidates.specs.declared.Picked.{Picked}
-use Rattle.candidates.specs.declared.Picked.the-variants.{At, NoCandidate, SentBack}
-use Rattle.candidates.specs.Window.{isNo, isBack, distanceIn, numberIn}
-use Rattle.book.proofs.Sizes.{third-size}
+use Rattle.candidates.specs.declared.Picked.the-variants.{At, NoCandidate, SentBack, Taken}
+use Rattle.candidates.specs.Slot.{View}
+use Rattle.candidates.specs.Rounds.{BestIn}
+use Rattle.candidates.specs.Choice.{worthIn, choice}
+use Rattle.candidates.specs.Scanning.{freeUptoFour, noneYet, drawn}
 use Rattle.candidates.proofs.Promised.{pick-is-candidate}
+use Rattle.candidates.proofs.Sameness.{bestAfter, best-of, lost-best, drawn-is}
 use Rattle.choosing.specs.declared.Wanted.{Wanted}
-use Rattle.choosing.specs.declared.Choice.{Choice}
-use Rattle.choosing.specs.declared.Chosen.the-variants.{Done}
-use Rattle.choosing.specs.Own.{worldOf}
-use Rattle.choosing.specs.Choosing.{
-  chosenNumber,
-  Lists,
-  askFits,
-  pickedIn,
-  chooseTests,
-  worldAfter,
-  choiceOf,
-  choiceIn,
-  chooseAnswer,
-  leftBy,
-  chooseLeft,
-  Chooses,
-}
-use Rattle.choosing.specs.Promises.{ChooseOnce, ChooseExactly, NeverBeyond, ChosenIsCandidate, MarksInTheBook, ChooseKeeps, OnlyReplacedHeldOff}
-use Rattle.choosing.proofs.Answers.{drawn-near}
-use Rattle.choosing.proofs.Replacing.{sound-frames, met, not-met}
+use Rattle.choosing.specs.declared.Query.{Query}
+use Rattle.choosing.specs.Choosing.{windowOf, anyOwn, viewOf, pickedIn}
+use Rattle.choosing.specs.Scanning.{asked, turnsOf, scanned, judged}
+use Rattle.choosing.specs.Promises.{FindsTheChoice, PickedIsCandidate, PickedInTheBook}
+use Rattle.choosing.proofs.Meaning.{near, narrow, timed as for-time-out}
+use Rattle.choosing.proofs.Asking.{turns-lost, turns-all, judged-taken, judged-drawn}
 
--- no second answer
-pub choose-once : ChooseOnce
-choose-once l s p a r r′ l₁ l₂ h k = unique (chooseLeft l s p a) h k
+-- ---- the slot that is found
 
--- ---- a draw that picks a slot
+module _ (reg : List Station) (slots : List ℕ) (w : Watch) (a : Wanted) (m : a .timeout < mostTimeOut + 1) where
+  abbrev q : Query
+  q = asked slots w a
 
--- what is neither without candidates nor sent back is a slot
-is-at : (q : Picked) → isNo q ≡ false → isBack q ≡ false → q ≡ At (distanceIn q) (numberIn q)
-is-at (At x n) e f = refl
-is-at NoCandidate e f = absurd (true≢false e)
-is-at SentBack e f = absurd (true≢false f)
+  abbrev v : View
+  v = viewOf reg slots w
 
--- the time-out that can be asked for
-timeout-most : (p : Plan) (a : Wanted) → askFits p a ≡ true → a .timeout ≤ mostTimeOut
-unfolding askFits
-timeout-most p a e = between-is leastTimeOut mostTimeOut (a .timeout) (both-right (ltb (a .k) (p .rate)) (between leastTimeOut mostTimeOut (a .timeout)) e) .1
+  abbrev x : Window
+  x = windowOf w a
 
-module _ (l : Lists) (s : Standing) (p : Plan) (a : Wanted) (some : isNo (pickedIn l s p a) ≡ false) (kept : isBack (pickedIn l s p a) ≡ false) where
-  -- a slot is picked
-  picks : pickedIn l s p a ≡ At (distanceIn (pickedIn l s p a)) (numberIn (pickedIn l s p a))
-  picks = is-at (pickedIn l s p a) some kept
+  fits : x .width ≤ widest
+  fits = narrow (w .present) (w .channel .plan) (a .k) (a .timeout) x refl
 
-  -- its marks lie in the book
-  in-book : askFits p a ≡ true → distanceIn (pickedIn l s p a) + frameSlots * a .timeout < slotTimes
-  in-book e = omega (arith, timeout-most p a e, drawn-near l s p a _ _ picks)
+  timed : x .timeout < mostTimeOut + 1
+  timed = omega (arith, m, for-time-out (w .present) (w .channel .plan) (a .k) (a .timeout) x refl)
 
--- ---- each number exactly when
+  taken-is : q .taken ≡ anyOwn slots x
+  unfolding asked
+  taken-is = refl
 
-pub choose-exactly : ChooseExactly
-unfolding chooseAnswer chooseTests
-choose-exactly l s p a =
-    by-tests (20 ∷ 31 ∷ 30 ∷ 32 ∷ 33 ∷ 34 ∷ 35 ∷ []) chosenNumber (chooseTests l s p a) (Done (choiceIn l s p a)) refl tt refl
+  window-is : q .window ≡ x
+  unfolding asked
+  window-is = refl
 
--- the last test always holds
-pub never-beyond : NeverBeyond
-unfolding chooseTests
-never-beyond l s p a e =
-    let last = stops-there _ _ 35 6 (omega arith) tt (choose-exactly l s p a .given 35 (omega arith) .0 e) .1 .1 in
-    let inside = in-book l s p a (was-false (last .1 .1 .0)) (was-false (last .1 .1 .1 .0)) (last .0) in
-    true≢false (sym (lt-ltb _ _ inside) ∙ last .1 .1 .1 .1)
+  draw-is : q .draw ≡ a .draw
+  unfolding asked
+  draw-is = refl
 
--- ---- what is chosen
+  watch-is : q .watch ≡ w
+  unfolding asked
+  watch-is = refl
 
-module _ (l l′ : Lists) (s : Standing) (p : Plan) (a : Wanted) (c : Choice) (h : Chooses l s p a (Done c) l′) where
-  -- every test held
-  held : AllHold (chooseTests l s p a)
-  unfolding chooseAnswer chooseTests
-  held = all-answered chosenNumber (chooseTests l s p a) (Done (choiceIn l s p a)) tt (ap chosenNumber (sym (h .0)))
+  scanned-is : scanned reg slots q ≡ bestAfter v x timed (turnsOf q)
+  unfolding scanned asked
+  scanned-is = refl
 
-  -- so the answer is the one that is given then
-  given : c ≡ choiceIn l s p a
-  unfolding chooseAnswer
-  given = let e = h .0 ∙ all-through (chooseTests l s p a) (Done (choiceIn l s p a)) held in cc
+  picked-taken : anyOwn slots x ≡ true → pickedIn reg slots w a ≡ Taken
+  unfolding pickedIn
+  picked-taken t = simp t
 
-  -- the slot, and out of how many
-  distance-is : c .distance ≡ distanceIn (pickedIn l s p a)
-  unfolding choiceOf
-  distance-is = ap (λ (x : Choice). x .distance) given
+  picked-drawn : anyOwn slots x ≡ false → pickedIn reg slots w a ≡ choice v x (a .draw)
+  unfolding pickedIn
+  picked-drawn t = simp t
 
-  number-is : c .candidates ≡ numberIn (pickedIn l s p a)
-  unfolding choiceOf
-  number-is = ap (λ (x : Choice). x .candidates) given
+  -- the window is not taken
+  module _ (t : anyOwn slots x ≡ false) where
+    free-is : q .free ≡ freeUptoFour slots x
+    unfolding asked
+    free-is = simp t
 
-  -- the draw picked it
-  some-picked : isNo (pickedIn l s p a) ≡ false
-  unfolding chooseTests
-  some-picked = was-false (held .1 .1 .1 .1 .0)
+    best : freeUptoFour slots x < 4 → BestIn (worthIn v x) (x .width) (scanned reg slots q)
+    best l = by-test (weKnown (w .ship)) known lost
+      where
+        known : weKnown (w .ship) ≡ true → BestIn (worthIn v x) (x .width) (scanned reg slots q)
+        known k =
+            subst (BestIn (worthIn v x) (x .width)) (sym (scanned-is ∙ ap (bestAfter v x timed) (sym turns))) (best-of v x timed k (x .width) (omega (arith, fits)))
+          where
+            turns : x .width ≡ turnsOf q
+            turns = ap (λ (y : Window). y .width) (sym window-is) ∙ turns-all q (taken-is ∙ t) (omega (arith, free-is, l)) (ap (λ (y : Watch). weKnown (y .ship)) watch-is ∙ k)
 
-  not-back : isBack (pickedIn l s p a) ≡ false
-  unfolding chooseTests
-  not-back = was-false (held .1 .1 .1 .1 .1 .0)
+        lost : weKnown (w .ship) ≡ false → BestIn (worthIn v x) (x .width) (scanned reg slots q)
+        lost k = subst (BestIn (worthIn v x) (x .width)) (sym (scanned-is ∙ ap (bestAfter v x timed) (sym turns) ∙ none)) (lost-best v x k (x .width) (omega (arith, fits)))
+          where
+            turns : 0 ≡ turnsOf q
+            turns = turns-lost q (taken-is ∙ t) (omega (arith, free-is, l)) (ap (λ (y : Watch). weKnown (y .ship)) watch-is ∙ k)
 
-  picked-is : pickedIn l s p a ≡ At (c .distance) (c .candidates)
-  picked-is = picks l s p a some-picked not-back ∙ (λ i. At (sym distance-is i) (sym number-is i))
+            none : bestAfter v x timed 0 ≡ noneYet
+            none = sym (folded-none _ _ _ _)
 
-  -- its marks lie in the book
-  marks-in : c .distance + frameSlots * a .timeout < slotTimes
-  unfolding chooseTests
-  marks-in = rw distance-is (in-book l s p a some-picked not-back (held .1 .1 .0))
+    found : judged slots q (scanned reg slots q) ≡ choice v x (a .draw)
+    found =
+        sym (judged-drawn slots q (scanned reg slots q) (taken-is ∙ t) (choice v x (a .draw)) (sym drawn-so))
+      where
+        drawn-so : drawn slots (q .window) (q .free) (scanned reg slots q) (q .draw) ≡ choice v x (a .draw)
+        drawn-so =
+            ap (λ (y : Window). drawn slots y (q .free) (scanned reg slots q) (q .draw)) window-is
+            ∙ ap (λ (f : ℕ). drawn slots x f (scanned reg slots q) (q .draw)) free-is
+            ∙ ap (drawn slots x (freeUptoFour slots x) (scanned reg slots q)) draw-is
+            ∙ drawn-is v x fits (scanned reg slots q) best (a .draw)
 
-  -- what is left
-  left-is : l′ ≡ leftBy (worldAfter l s (a .timeout) (c .distance))
-  left-is = rw distance-is (h .1)
+  finds : judged slots q (scanned reg slots q) ≡ pickedIn reg slots w a
+  finds =
+      by-test (anyOwn slots x)
+      (λ t. sym (judged-taken slots q (scanned reg slots q) (taken-is ∙ t)) ∙ sym (picked-taken t))
+      (λ t. found t ∙ sym (picked-drawn t))
 
-  counts-is : c .counts ≡ countsOf (worldAfter l s (a .timeout) (c .distance) .book)
-  unfolding choiceOf
-  counts-is = rw distance-is (ap (λ (x : Choice). x .counts) given)
+pub finds-the-choice : FindsTheChoice
+finds-the-choice = finds
 
-pub chosen-is-candidate : ChosenIsCandidate
-chosen-is-candidate l l′ s p a c h = pick-is-candidate (l .slots) (l .reach) _ (a .draw) _ _ (picked-is l l′ s p a c h)
+-- ---- what is picked
 
-pub marks-in-the-book : MarksInTheBook
-marks-in-the-book = marks-in
+-- the answers as numbers, to tell them apart
+abbrev answer : Picked → ℕ
+answer (At x n) = 0
+answer NoCandidate = 1
+answer SentBack = 2
+answer Taken = 3
 
-pub choose-keeps : ChooseKeeps
-unfolding worldAfter
-choose-keeps l l′ s p a c w h =
-    let b = worldAfter l s (a .timeout) (c .distance) .book in
-    let t : Sound b = sound-frames (s .present) (c .distance) (worldOf (l .slots) (l .tallies) (l .reach) (s .counts)) (a .timeout + 1) w in
-    let left = left-is l l′ s p a c h in
-    let counts = counts-is l l′ s p a c h in
-    subst Sound (sym ((λ i. bookOf (left i .slots) (left i .tallies) (counts i)) ∙ parts-make b (t .kinds))) t
+pub picked-is-candidate : PickedIsCandidate
+unfolding pickedIn
+picked-is-candidate reg slots w a x n e =
+    by-test (anyOwn slots (windowOf w a))
+    (λ t. absurd (omega (arith, ap answer (sym (ap (λ (b : Bool). pick b Taken (choice (viewOf reg slots w) (windowOf w a) (a .draw))) t) ∙ e))))
+    (λ t. pick-is-candidate (viewOf reg slots w) (windowOf w a) (a .draw) x n
+    (sym (ap (λ (b : Bool). pick b Taken (choice (viewOf reg slots w) (windowOf w a) (a .draw))) t) ∙ e))
 
-pub only-replaced-held-off : OnlyReplacedHeldOff
-unfolding worldAfter chooseTests
-only-replaced-held-off l l′ s p a c k below h =
-    let w = worldOf (l .slots) (l .tallies) (l .reach) (s .counts) in
-    let fits = marks-in l l′ s p a c h in
-    let e = ap (λ (x : Lists). getD (x .reach) k 0) (left-is l l′ s p a c h) in
-    let size = third-size _ _ _ (held l l′ s p a c h .0) in
-    record {
-      replaced = λ i b q.
-          e ∙ met (s .present) (c .distance) w (a .timeout) fits k (a .timeout + 1) i (omega arith) (omega arith) (omega (arith, size)) q;
-      other = λ none. e ∙ not-met (s .present) (c .distance) w (a .timeout) fits k (a .timeout + 1) (omega arith) (λ i b. none i (omega arith));
-    }
+pub picked-in-the-book : PickedInTheBook
+picked-in-the-book reg slots w a x n m e =
+    let p = picked-is-candidate reg slots w a x n e in
+    let y = windowOf w a in
+    omega (
+      arith,
+      p .there,
+      p .candidate .inside,
+      near (w .present) (w .channel .plan) (a .k) (a .timeout) y refl,
+      narrow (w .present) (w .channel .plan) (a .k) (a .timeout) y refl,
+      m,
+    )

@@ -15,7 +15,7 @@ use Rattle.laws.proofs.Tests.{both-left}
 use Rattle.laws.proofs.Signs.{small, abs-32, as-64}
 use Rattle.ship.specs.Ship.{knownPlace}
 use Rattle.distance.specs.Distance.{apart, round, distance}
-use Rattle.distance.specs.Promises.{NeverIsNoDistance}
+use Rattle.distance.specs.Promises.{FarthestApart}
 
 -- ---- the difference
 
@@ -73,7 +73,12 @@ unfolding round
 round-le d = omega arith
 
 -- known latitudes are at most 108,000,000 apart, and so are longitudes the short way round
-pub never-is-no-distance : NeverIsNoDistance
+pub farthest-apart : FarthestApart
 unfolding distance apart
-never-is-no-distance lat lon lat′ lon′ k k′ =
+farthest-apart lat lon lat′ lon′ k k′ =
     omega (arith, round-le (natAbs (lon -ℤ lon′)), abs-sub lat lat′, known-lat lat lon k, known-lat lat′ lon′ k′)
+
+-- any two positions of 32 bits are less than 2 ^ 33 apart
+pub distance-small : (lat lon lat′ lon′ : ℤ) → SFits w32 lat → SFits w32 lat′ → distance lat lon lat′ lon′ < 8589934592
+unfolding distance
+distance-small lat lon lat′ lon′ f g = omega (arith, apart-small lat lat′ f g, round-le (apart lon lon′))

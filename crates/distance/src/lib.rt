@@ -1,21 +1,28 @@
-// How far a station is from us, and whether its slots may be reused. Promise: as specs/Distance.antt says, on signed positions.
+// How far a station is from us, and its level for the choice: why its slots may not be reused, or how far it is. Promises: as specs/Distance.antt says, on
+// signed positions; specs/Promises.antt has that the level of every station is below that of a time that nobody holds.
 ghost use mathlib.Core.Path.{_≡_};
 ghost use Prim.Native.Nat.{_<_};
 ghost use lib.IntN.{natAbs};
-ghost use Rattle.distance.specs.Distance.{apart, round, distance, reachOf};
+ghost use Rattle.distance.specs.Distance.{apart, round, distance, levelOf};
 use ship::Ship;
+use ship::Station;
 use ship::known;
 
-// What stands in place of a distance where a station's slots may not be reused.
-pub const NEVER: u32 = 4294967295;
+// The level of a holder of a slot time, for the choice: the lower, the less its slots may be used. Of a station's it is why they may not, or from FAR on how
+// far it is; our own time is OWN, where our own position is not known it is WE_UNKNOWN, and nobody's is TOP, above the level of every distance.
+pub const OWN: u64 = 0;
 
-// What is asked of a station's record.
-pub struct Holder {
-    pub base: bool,
-    pub latitude: i32,
-    pub longitude: i32,
-    pub hold: u16,
-}
+pub const WE_UNKNOWN: u64 = 1;
+
+pub const BASE: u64 = 2;
+
+pub const UNKNOWN: u64 = 3;
+
+pub const HELD_OFF: u64 = 4;
+
+pub const FAR: u64 = 5;
+
+pub const TOP: u64 = 36028797018963968;
 
 // The number without its sign.
 fn size(d: i64) -> u64
@@ -59,21 +66,18 @@ pub fn distance(latitude: i32, longitude: i32, north: i32, east: i32) -> u64
     a + b
 }
 
-// The distance of a station whose slots may be reused, else never.
-pub fn reach(ship: Ship, x: Holder) -> u32
-    ensures { λ r. ⌜ r ≡ reachOf ship x ⌝ }
+// The level of a station, our own position being known.
+pub fn level(ship: Ship, s: Station) -> u64
+    ensures { λ r. ⌜ r ≡ levelOf ship s ⌝ }
 {
-    if !known(ship.latitude, ship.longitude) {
-        return NEVER;
+    if s.base {
+        return BASE;
     }
-    if x.base {
-        return NEVER;
+    if !known(s.latitude, s.longitude) {
+        return UNKNOWN;
     }
-    if !known(x.latitude, x.longitude) {
-        return NEVER;
+    if s.hold > 0 {
+        return HELD_OFF;
     }
-    if x.hold > 0 {
-        return NEVER;
-    }
-    distance(ship.latitude, ship.longitude, x.latitude, x.longitude) as u32
+    FAR + distance(ship.latitude, ship.longitude, s.latitude, s.longitude)
 }

@@ -1,3 +1,10 @@
 pub mod Stations
 pub mod Promised
-pub mod Answers
+pub mod Finding
+pub mod Entering
+pub mod Noting
+pub mod Turning
+pub mod Data
+pub mod Runs
+pub mod Joined
+pub mod Hears

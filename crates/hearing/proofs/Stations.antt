@@ -19,17 +19,16 @@ use Rattle.laws.proofs.Tests.{both-no, both-yes}
 use Rattle.laws.proofs.Lists.{next, done}
 use Rattle.message.specs.declared.state.State.{State}
 use Rattle.ship.specs.Ship.{fairSource}
-use Rattle.hearing.specs.declared.Told.{Told}
-use Rattle.hearing.specs.declared.Told.the-variants.{Station}
+use Rattle.hearing.specs.declared.Telling.{Telling}
 use Rattle.hearing.specs.Station.{fairOther, indexOf, recordOf}
 use Rattle.hearing.specs.Promises.{First}
 
 -- ---- what is told
 
 -- a telling by its parts
-abbrev telling : ℕ → ℕ → Bool → ℤ → ℤ → State → Told
+abbrev telling : ℕ → ℕ → Bool → ℤ → ℤ → State → Telling
 telling source repeat base lat lon state =
-    Station (record { source = source; repeat = repeat; base = base; latitude = lat; longitude = lon; state = state })
+    record { source = source; repeat = repeat; base = base; latitude = lat; longitude = lon; state = state }
 
 -- a number of 32 bits, read back from its bits
 back : (z : ℤ) → mag z < 2147483648 → toZ w32 (ofZ w32 z) ≡ z

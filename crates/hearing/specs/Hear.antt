@@ -1,129 +1,109 @@
--- Hearing: what a message tells of its station, what is given back, and what the lent lists are then.
+-- Hearing a message in slot now, in the words of document 01.
 -- Assumes nothing.
-use Prim.Native.Nat.{ℕ, _+_}
-use mathlib.Core.Path.{_≡_}
-use mathlib.Core.Bool.{Bool, true, false, not}
+use Prim.Native.Nat.{ℕ, suc}
+use mathlib.Core.Bool.{Bool, true, false}
 use mathlib.Core.List.{List, [], _∷_}
 use lib.Dec.{eqb, ltb}
-use lib.ListN.{getD, set}
-use Rattle.laws.specs.Tests.{ladder}
-use Rattle.limits.specs.Limits.{records}
-use Rattle.numbers.specs.declared.Refusal.the-variants.{UnknownId, OtherLength, BadSource, Repeated, NoRecord, BeyondBook}
-use Rattle.numbers.specs.Numbers.{numberOf}
+use lib.IntN.{pos}
+use lib.ListN.{length, getD, set}
+use Rattle.laws.specs.Tests.{pick, between, ladder}
+use Rattle.limits.specs.Limits.{records, messageBytes}
+use Rattle.numbers.specs.declared.Refusal.the-variants.{MessageLength, UnknownId, OtherLength, BadSource, Repeated, NoRecord, BeyondBook}
 use Rattle.message.specs.declared.Message.{Message}
 use Rattle.message.specs.declared.Message.the-variants.{One, Two, Three, Four, Other}
-use Rattle.message.specs.declared.Received.{Received}
-use Rattle.message.specs.declared.Received.the-variants.{Message as Got, Refused as NotRead}
 use Rattle.message.specs.declared.Report.{Report}
 use Rattle.message.specs.declared.Base.{Base}
-use Rattle.message.specs.declared.state.State.{State}
+use Rattle.message.specs.declared.state.State.{State as Sent}
 use Rattle.message.specs.declared.state.State.the-variants.{SelfOrganised as Organised, Incremental as Increasing}
-use Rattle.book.specs.declared.Standing.{Standing}
-use Rattle.book.specs.Sizes.{allSized}
-use Rattle.book.specs.Book.{Book, bookOf, countsOf, talliesOf}
-use Rattle.hearing.specs.declared.Telling.{Telling}
-use Rattle.hearing.specs.declared.Told.{Told}
-use Rattle.hearing.specs.declared.Told.the-variants.{Station, Refused as NotTold}
-use Rattle.hearing.specs.declared.Hearing.{Hearing}
-use Rattle.hearing.specs.declared.Heard.{Heard}
-use Rattle.hearing.specs.declared.Heard.the-variants.{Done, Refused}
-use Rattle.announcing.specs.declared.rows.Row.{Row}
+use Rattle.message.specs.declared.state.SubMessage.the-variants.{Offset}
+use Rattle.message.specs.Message.{idIn, messageOf}
+use Rattle.ship.specs.declared.Station.{Station}
+use Rattle.ship.specs.Ship.{blank}
 use Rattle.announcing.specs.Rows.{booked, heldOf, inBook}
 use Rattle.announcing.specs.Announce.{announces}
+use Rattle.register.specs.declared.Answer.the-variants.{Heard}
+use Rattle.register.specs.State.{State, stateOf, sourcesIn, talliesIn, bookIn, settle}
+use Rattle.register.specs.Answers.{Answered, answered, no, sized}
+use Rattle.hearing.specs.declared.Telling.{Telling}
 use Rattle.hearing.specs.Station.{fairOther, recordOf}
-
--- ---- the numbers given back, 0 for none
-
-abbrev pub heardNumber : Heard → ℕ
-heardNumber (Done d) = 0
-heardNumber (Refused r) = numberOf r
 
 -- ---- what a message tells
 
 -- messages 1 to 3 come from a mobile, message 4 from a base station
-abbrev pub mobile : Report → State → Told
-mobile r s = Station (record { source = r .source; repeat = r .repeat; base = false; latitude = r .latitude; longitude = r .longitude; state = s })
+abbrev pub mobile : Report → Sent → Telling
+mobile r s = record { source = r .source; repeat = r .repeat; base = false; latitude = r .latitude; longitude = r .longitude; state = s }
 
-abbrev pub station : Base → State → Told
-station b s = Station (record { source = b .source; repeat = b .repeat; base = true; latitude = b .latitude; longitude = b .longitude; state = s })
+abbrev pub station : Base → Sent → Telling
+station b s = record { source = b .source; repeat = b .repeat; base = true; latitude = b .latitude; longitude = b .longitude; state = s }
 
-abbrev pub tellingOf : Message → Told
+-- (another message is never heard)
+abbrev pub tellingOf : Message → Telling
 tellingOf (One r s) = mobile r (Organised s)
 tellingOf (Two r s) = mobile r (Organised s)
 tellingOf (Three r s) = mobile r (Increasing s)
 tellingOf (Four b s) = station b (Organised s)
-tellingOf Other = NotTold UnknownId
+tellingOf Other =
+    record { source = 0; repeat = 0; base = false; latitude = pos 0; longitude = pos 0; state = Organised (record { sync = 0; sub = Offset 0 }) }
 
-abbrev pub toldOf : Received → Told
-toldOf (Got m) = tellingOf m
-toldOf (NotRead r) = NotTold r
+abbrev pub tellingIn : List ℕ → Telling
+tellingIn bytes = tellingOf (messageOf bytes)
 
--- ---- hearing
+-- ---- its station's record
 
--- the lists that are lent: the book, the records' tallies and their sources
-pub record Lists : Type 0 where
-  pub slots : List ℕ
-  pub tallies : List ℕ
-  pub sources : List ℕ
+-- the lowest-numbered one with its source, else the lowest-numbered with tally 0; counted from 0, and past the last where there is none
+abbrev pub recordFor : List Station → ℕ → ℕ
+recordFor reg source = recordOf (sourcesIn reg) (talliesIn reg) source
 
-abbrev pub listsOf : List ℕ → List ℕ → List ℕ → Lists
-listsOf s t o = record { slots = s; tallies = t; sources = o }
-
-abbrev pub sized : Lists → Bool
-sized l = allSized (l .slots) (l .tallies) (l .sources)
-
--- the station's record, counted from 0; its holder number is one more
-abbrev pub recordIn : Lists → Telling → ℕ
-recordIn l x = recordOf (l .sources) (l .tallies) (x .source)
-
-abbrev pub bookTests : Lists → Telling → List (Bool × Heard)
-bookTests l x =
-    (ltb (recordIn l x) records, Refused NoRecord)
-    ∷ (inBook (announces (x .state)), Refused BeyondBook)
-    ∷ []
-
-unfoldable pub hearTests : Lists → ℕ → Telling → List (Bool × Heard)
-hearTests l own x =
-    (sized l, Refused OtherLength)
-    ∷ (fairOther (x .source) own, Refused BadSource)
-    ∷ (eqb (x .repeat) 0, Refused Repeated)
-    ∷ bookTests l x
-
--- the book with what the station announces
-unfoldable pub bookAfter : Lists → Standing → Telling → Book
-bookAfter l s x = booked (s .present) (recordIn l x + 1) (announces (x .state)) (bookOf (l .slots) (l .tallies) (s .counts))
-
-unfoldable pub hearingOf : Lists → Standing → Telling → Hearing
-hearingOf l s x =
+-- source, kind and position are stored; a record that is taken over has hold-off 0
+unfoldable pub entered : Telling → Station → Station
+entered x r =
     record {
-      counts = countsOf (bookAfter l s x);
-      at = recordIn l x;
-      taken = not (eqb (getD (l .sources) (recordIn l x) 0) (x .source));
-      marks = heldOf (s .present) (recordIn l x + 1) (bookAfter l s x .slots) (announces (x .state));
+      source = x .source;
+      base = x .base;
+      latitude = x .latitude;
+      longitude = x .longitude;
+      tally = r .tally;
+      hold = pick (eqb (r .source) (x .source)) (r .hold) 0;
     }
 
-abbrev pub hearAnswer : Lists → Standing → ℕ → Told → Heard
-hearAnswer l s own (Station x) = ladder (hearTests l own x) (Done (hearingOf l s x))
-hearAnswer l s own (NotTold r) = Refused r
+unfoldable pub stored : State → Telling → State
+stored s x =
+    let k = recordFor (s .reg) (x .source) in
+    stateOf (set (s .reg) k (entered x (getD (s .reg) k blank))) (s .book) (s .watch)
 
--- the lent lists after the call
-abbrev pub hearLeft : Lists → Standing → Told → Heard → Lists
-hearLeft l s (Station x) (Done d) =
-    listsOf (bookAfter l s x .slots) (talliesOf (bookAfter l s x)) (set (l .sources) (recordIn l x) (x .source))
-hearLeft l s (Station x) (Refused r) = l
-hearLeft l s (NotTold n) (Done d) = l
-hearLeft l s (NotTold n) (Refused r) = l
+-- ---- the call
 
--- what `hear` promises: one answer, and one content of everything lent
-abbrev pub Hears : Lists → Standing → ℕ → Told → Heard → Lists → Type 0
-Hears l s own t r l′ = (r ≡ hearAnswer l s own t) × (l′ ≡ hearLeft l s t r)
+-- the station is stored, and what it announces is freed and marked for it
+unfoldable pub heard : State → Telling → State
+heard s x =
+    let t = stored s x in
+    settle (booked (s .watch .present) (suc (recordFor (s .reg) (x .source))) (announces (x .state)) (bookIn t)) t
 
--- ---- what the code has done once the record k has the station and the book what it announces
+-- how many different slot times that the report marks are the station's then
+unfoldable pub marksOf : State → Telling → ℕ
+marksOf s x = heldOf (s .watch .present) (suc (recordFor (s .reg) (x .source))) (heard s x .book) (announces (x .state))
 
-abbrev pub Enters : Lists → Standing → Telling → ℕ → List Row → Hearing → Lists → Type 0
-Enters l s x k rows r l′ =
-    (bookOf (l′ .slots) (l′ .tallies) (r .counts) ≡ booked (s .present) (k + 1) rows (bookOf (l .slots) (l .tallies) (s .counts)))
-    × (l′ .sources ≡ set (l .sources) k (x .source))
-    × (r .at ≡ k)
-    × (r .taken ≡ not (eqb (getD (l .sources) k 0) (x .source)))
-    × (r .marks ≡ heldOf (s .present) (k + 1) (l′ .slots) rows)
+-- what is asked of the register and the book
+abbrev pub bookTests : State → Telling → List (Bool × Answered)
+bookTests s x =
+    (ltb (recordFor (s .reg) (x .source)) records, no s NoRecord)
+    ∷ (inBook (announces (x .state)), no s BeyondBook)
+    ∷ []
+
+unfoldable pub hearTests : State → List ℕ → List (Bool × Answered)
+hearTests s bytes =
+    let x = tellingIn bytes in
+    (eqb (length bytes) messageBytes, no s MessageLength)
+    ∷ (between 1 4 (idIn bytes), no s UnknownId)
+    ∷ (sized s, no s OtherLength)
+    ∷ (fairOther (x .source) (s .watch .ship .source), no s BadSource)
+    ∷ (eqb (x .repeat) 0, no s Repeated)
+    ∷ bookTests s x
+
+-- what is answered where all tests hold
+abbrev pub hears : State → Telling → Answered
+hears s x = answered (Heard (record { source = x .source; marks = marksOf s x })) (heard s x)
+
+unfoldable pub hear : State → List ℕ → Answered
+unfolding hearTests
+hear s bytes = ladder (hearTests s bytes) (hears s (tellingIn bytes))

@@ -1,3 +1,4 @@
 pub mod Station
 pub mod Hear
+pub mod Booking
 pub mod Promises

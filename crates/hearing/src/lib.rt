@@ -1,33 +1,49 @@
-// Hearing: what a message from another station does to the slot book and to the list of sources. Promises: `hear` gives the answer and the
-// contents that specs/Hear.antt defines, for every message and every book; a refusal changes nothing. specs/Promises.antt has "given exactly
-// when" for each number, that no second answer meets the contract, and that demand 3 stays true.
-pub mod station;
-
+// Hearing: what a message from another station does to the register and to the book. Promises: `find` looks its record up in the lent register, `store` enters it
+// there, `free_times` and `mark_times` book what it announces, each as specs/Hear.antt says, for every state. specs/Promises.antt has "given exactly when" for
+// each number, and that the record is the lowest.
 ghost use mathlib.Core.Path.{_≡_};
-ghost use mathlib.Core.Bool.{true};
+ghost use mathlib.Core.List.{[]};
 ghost use Prim.Native.Nat.{_<_};
-ghost use lib.ListN.{length};
-ghost use Rattle.laws.specs.Tests.{ladder};
+ghost use lib.Dec.{eqb, ltb};
+ghost use lib.ListN.{length, getD};
+ghost use Rattle.laws.specs.Tests.{pick};
+ghost use Rattle.laws.specs.Counting.{one};
 ghost use Rattle.limits.specs.Limits.{slotTimes, records};
-ghost use Rattle.announcing.specs.Rows.{inBook};
-ghost use Rattle.hearing.specs.declared.Told.the-variants.{Station};
-ghost use Rattle.hearing.specs.declared.Heard.the-variants.{Done};
-ghost use Rattle.hearing.specs.Hear.{tellingOf, toldOf, listsOf, bookTests, hearingOf, hearLeft, Enters, Hears};
-use announcing::marks::book_times;
+ghost use Rattle.announcing.specs.Announce.{filled};
+ghost use Rattle.register.specs.State.{withCounts};
+ghost use Rattle.walks.specs.Out.{Ends};
+ghost use Rattle.hearing.specs.declared.Fit.the-variants.{Refused as NotFit};
+ghost use Rattle.hearing.specs.Station.{fairOther};
+ghost use Rattle.hearing.specs.Hear.{tellingOf};
+ghost use Rattle.hearing.specs.Booking.{unfound, firstOf, foundWith, foundIn, recordIn, fitOf, atOf, rowsOf, Noted, placeOf, storedBy, storedIn, holderOf, started, Steps, FreesOne, MarksOne, rewatched, replyOf, Booked, freedOut, markedOut};
 use announcing::rows::ROWS;
 use announcing::rows::Row;
 use announcing::rows::announced;
+use announcing::rows::no_rows;
 use announcing::rows::within;
+use announcing::times::next_time;
+use book::Channel;
 use book::Counts;
-use book::Standing;
+use book::Handing;
+use book::NONE;
+use book::Watch;
+use book::free;
+use book::mark;
+use book::place;
 use limits::RECORDS;
 use limits::SLOT_TIMES;
 use message::Message;
-use message::Received;
+use message::state::SelfOrganised;
 use message::state::State;
+use message::state::SubMessage;
 use numbers::Refusal;
-use station::fair;
-use station::record_of;
+use register::Answer;
+use register::Marks;
+use register::Reply;
+use register::Turn;
+use register::lose;
+use register::win;
+use ship::Station;
 
 // What hearing needs of a message.
 pub struct Telling {
@@ -39,155 +55,418 @@ pub struct Telling {
     pub state: State,
 }
 
-pub enum Told {
-    Station(Telling),
+// A message that is heard, and the watch.
+pub struct Hearing {
+    pub watch: Watch,
+    pub telling: Telling,
+}
+
+// The lowest record with the source and the lowest with tally 0, RECORDS where there is none.
+pub struct Found {
+    pub with: usize,
+    pub idle: usize,
+}
+
+// Whether a report can be booked.
+pub enum Fit {
+    Yes,
     Refused(Refusal),
 }
 
-// Which record the station has, whether it was taken over for it, and how many different slot times are the station's by this report.
-pub struct Hearing {
-    pub counts: Counts,
+// A report with the station's record, the rows that it announces, and the first times that these free and mark. Nothing is done where it is not fit.
+pub struct Booking {
+    pub watch: Watch,
+    pub telling: Telling,
+    pub fit: Fit,
     pub at: usize,
-    pub taken: bool,
+    pub rows: [Row; ROWS],
+    pub frees: usize,
     pub marks: usize,
 }
 
-pub enum Heard {
-    Done(Hearing),
-    Refused(Refusal),
-}
-
 // What a message says of its station. A message 4 comes from a base station, any other from a mobile.
-fn tell_message(message: Message) -> Told
+pub fn tell(message: Message) -> Telling
     ensures { λ r. ⌜ r ≡ tellingOf message ⌝ }
 {
     match message {
-        Message::One(r, s) => Told::Station(Telling {
+        Message::One(r, s) => Telling {
             source: r.source,
             repeat: r.repeat,
             base: false,
             latitude: r.latitude,
             longitude: r.longitude,
             state: State::SelfOrganised(s),
-        }),
-        Message::Two(r, s) => Told::Station(Telling {
+        },
+        Message::Two(r, s) => Telling {
             source: r.source,
             repeat: r.repeat,
             base: false,
             latitude: r.latitude,
             longitude: r.longitude,
             state: State::SelfOrganised(s),
-        }),
-        Message::Three(r, s) => Told::Station(Telling {
+        },
+        Message::Three(r, s) => Telling {
             source: r.source,
             repeat: r.repeat,
             base: false,
             latitude: r.latitude,
             longitude: r.longitude,
             state: State::Incremental(s),
-        }),
-        Message::Four(b, s) => Told::Station(Telling {
+        },
+        Message::Four(b, s) => Telling {
             source: b.source,
             repeat: b.repeat,
             base: true,
             latitude: b.latitude,
             longitude: b.longitude,
             state: State::SelfOrganised(s),
-        }),
-        Message::Other => Told::Refused(Refusal::UnknownId),
+        },
+        Message::Other => Telling {
+            source: 0,
+            repeat: 0,
+            base: false,
+            latitude: 0,
+            longitude: 0,
+            state: State::SelfOrganised(SelfOrganised {
+                sync: 0,
+                sub: SubMessage::Offset(0),
+            }),
+        },
     }
 }
 
-// What was received, or why it was not: 17, 18.
-pub fn tell_received(received: Received) -> Told
-    ensures { λ r. ⌜ r ≡ toldOf received ⌝ }
+// Whether another station can have this source; `own` is ours.
+pub fn fair(source: u32, own: u32) -> bool
+    ensures { λ r. ⌜ r ≡ fairOther source own ⌝ }
 {
-    match received {
-        Received::Message(m) => tell_message(m),
-        Received::Refused(r) => Told::Refused(r),
+    if source == own {
+        return false;
+    }
+    ship::fair(source)
+}
+
+// ---- the record
+
+fn unfound(q: Hearing) -> Found
+    ensures { λ r. ⌜ r ≡ unfound ⌝ }
+{
+    Found {
+        with: RECORDS,
+        idle: RECORDS,
     }
 }
 
-// The record k becomes the station's, and the book has what it announces.
-fn enter(
-    book: &mut [u16],
-    tallies: &mut [u16],
-    sources: &mut [u32],
-    s: Standing,
-    x: Telling,
-    k: usize,
-    rows: [Row; ROWS],
-) -> Hearing
-    requires { ⌜ (length (now book) ≡ slotTimes) × (length (now tallies) ≡ records) × (length (now sources) ≡ records) × (k < records) × (inBook rows ≡ true) ⌝ }
-    ensures { λ r. ⌜ Enters (listsOf (now (book .entry)) (now (tallies .entry)) (now (sources .entry))) s x k rows r (listsOf (now (book .exit)) (now (tallies .exit)) (now (sources .exit))) ⌝ }
+// i where nothing was found before and x is what is sought.
+fn first(found: usize, x: u32, sought: u32, i: usize) -> usize
+    ensures { λ r. ⌜ r ≡ firstOf found x sought i ⌝ }
 {
-    let source = x.source;
-    let taken = sources[k] != source;
-    sources[k] = source;
-    let h = (k + 1) as u16;
-    let b = book_times(book, tallies, s.counts, s.present, h, rows);
-    let counts = b.counts;
-    Hearing {
-        counts,
-        at: k,
-        taken,
-        marks: b.marks,
-    }
-}
-
-// 23, 35.
-fn hear_station(
-    book: &mut [u16],
-    tallies: &mut [u16],
-    sources: &mut [u32],
-    s: Standing,
-    x: Telling,
-) -> Heard
-    requires { ⌜ (length (now book) ≡ slotTimes) × (length (now tallies) ≡ records) × (length (now sources) ≡ records) ⌝ }
-    ensures { λ r. ⌜ (r ≡ ladder (bookTests (listsOf (now (book .entry)) (now (tallies .entry)) (now (sources .entry))) x) (Done (hearingOf (listsOf (now (book .entry)) (now (tallies .entry)) (now (sources .entry))) s x))) × (listsOf (now (book .exit)) (now (tallies .exit)) (now (sources .exit)) ≡ hearLeft (listsOf (now (book .entry)) (now (tallies .entry)) (now (sources .entry))) s (Station x) r) ⌝ }
-{
-    let k = record_of(sources, tallies, x.source);
-    if k >= RECORDS {
-        return Heard::Refused(Refusal::NoRecord);
-    }
-    let state = x.state;
-    let rows = announced(state);
-    if !within(rows) {
-        return Heard::Refused(Refusal::BeyondBook);
-    }
-    Heard::Done(enter(book, tallies, sources, s, x, k, rows))
-}
-
-// Hears a message in the present slot: 17, 18, 20, 21, 22, 23, 35. Our own source is `ship`.
-pub fn hear(
-    book: &mut [u16],
-    tallies: &mut [u16],
-    sources: &mut [u32],
-    s: Standing,
-    ship: u32,
-    t: Told,
-) -> Heard
-    ensures { λ r. ⌜ Hears (listsOf (now (book .entry)) (now (tallies .entry)) (now (sources .entry))) s ship t r (listsOf (now (book .exit)) (now (tallies .exit)) (now (sources .exit))) ⌝ }
-{
-    match t {
-        Told::Refused(r) => Heard::Refused(r),
-        Told::Station(x) => {
-            if book.len() != SLOT_TIMES {
-                return Heard::Refused(Refusal::OtherLength);
-            }
-            if tallies.len() != RECORDS {
-                return Heard::Refused(Refusal::OtherLength);
-            }
-            if sources.len() != RECORDS {
-                return Heard::Refused(Refusal::OtherLength);
-            }
-            if !fair(x.source, ship) {
-                return Heard::Refused(Refusal::BadSource);
-            }
-            if x.repeat > 0 {
-                return Heard::Refused(Refusal::Repeated);
-            }
-            hear_station(book, tallies, sources, s, x)
+    if found == RECORDS {
+        if x == sought {
+            return i;
         }
     }
+    found
+}
+
+// With the record i more.
+fn found_with(f: Found, s: Station, q: Hearing, i: usize) -> Found
+    requires { ⌜ i < records ⌝ }
+    ensures { λ r. ⌜ r ≡ foundWith f s q i ⌝ }
+{
+    let telling = q.telling;
+    let with = first(f.with, s.source, telling.source, i);
+    let idle = first(f.idle, s.tally as u32, 0, i);
+    Found { with, idle }
+}
+
+// The lowest record with the source, and the lowest with tally 0.
+pub fn find(reg: &[Station], q: Hearing) -> Found
+    requires { ⌜ length (now reg) ≡ records ⌝ }
+    ensures { λ r. ⌜ r ≡ foundIn (now (reg .entry)) q ⌝ }
+{
+    let mut f = unfound(q);
+    let mut i: usize = 0;
+    while i < reg.len() {
+        f = found_with(f, reg[i], q, i);
+        i += 1;
+    }
+    f
+}
+
+// The record that the station has now: the lowest with its source, else the lowest with tally 0, which is taken over.
+fn record_in(f: Found) -> usize
+    ensures { λ r. ⌜ r ≡ recordIn f ⌝ }
+{
+    if f.with < RECORDS {
+        return f.with;
+    }
+    f.idle
+}
+
+// A report that cannot be booked announces nothing.
+fn unfit(q: Hearing, why: Refusal) -> Booking
+    ensures { λ r. ⌜ Noted q (NotFit why) 0 (filled []) r ⌝ }
+{
+    let watch = q.watch;
+    let telling = q.telling;
+    let rows = no_rows();
+    Booking {
+        watch,
+        telling,
+        fit: Fit::Refused(why),
+        at: 0,
+        rows,
+        frees: SLOT_TIMES,
+        marks: SLOT_TIMES,
+    }
+}
+
+// What is to be booked: 23, 35.
+pub fn noted(q: Hearing, f: Found) -> Booking
+    ensures { λ r. ⌜ Noted q (fitOf q f) (atOf q f) (rowsOf q f) r ⌝ }
+{
+    let k = record_in(f);
+    if k >= RECORDS {
+        return unfit(q, Refusal::NoRecord);
+    }
+    let watch = q.watch;
+    let telling = q.telling;
+    let state = telling.state;
+    let rows = announced(state);
+    if !within(rows) {
+        return unfit(q, Refusal::BeyondBook);
+    }
+    let frees = next_time(rows, 0, false);
+    let marks = next_time(rows, 0, true);
+    Booking {
+        watch,
+        telling,
+        fit: Fit::Yes,
+        at: k,
+        rows,
+        frees,
+        marks,
+    }
+}
+
+fn place_of(b: Booking) -> usize
+    ensures { λ r. ⌜ r ≡ placeOf b ⌝ }
+{
+    if b.at < RECORDS {
+        return b.at;
+    }
+    0
+}
+
+// A record that is taken over has hold-off 0.
+fn hold_of(s: Station, source: u32) -> u16
+    ensures { λ r. ⌜ r ≡ pick (eqb (s .source) source) (s .hold) 0 ⌝ }
+{
+    if s.source == source {
+        return s.hold;
+    }
+    0
+}
+
+// The record with the station in it.
+fn stored(s: Station, b: Booking) -> Station
+    ensures { λ r. ⌜ r ≡ storedBy s b ⌝ }
+{
+    let fit = b.fit;
+    let Fit::Yes = fit else {
+        return s;
+    };
+    let x = b.telling;
+    let hold = hold_of(s, x.source);
+    Station {
+        source: x.source,
+        base: x.base,
+        latitude: x.latitude,
+        longitude: x.longitude,
+        tally: s.tally,
+        hold,
+    }
+}
+
+// The station is entered in its record.
+pub fn store(reg: &mut [Station], b: Booking)
+    requires { ⌜ length (now reg) ≡ records ⌝ }
+    ensures { λ _. ⌜ now (reg .exit) ≡ storedIn (now (reg .entry)) b ⌝ }
+{
+    let k = place_of(b);
+    reg[k] = stored(reg[k], b);
+}
+
+// ---- the book
+
+fn holder_of(b: Booking) -> u16
+    ensures { λ r. ⌜ r ≡ holderOf b ⌝ }
+{
+    place_of(b) as u16 + 1
+}
+
+fn counts_in(b: Booking) -> Counts
+    ensures { λ r. ⌜ r ≡ b .watch .channel .counts ⌝ }
+{
+    let watch = b.watch;
+    let channel = watch.channel;
+    channel.counts
+}
+
+// Before the first time.
+fn started(c: Counts, at: usize) -> Turn
+    ensures { λ r. ⌜ r ≡ started c at ⌝ }
+{
+    Turn {
+        handing: Handing {
+            counts: c,
+            old: NONE,
+            new: NONE,
+        },
+        at,
+        left: 0,
+        marks: 0,
+    }
+}
+
+fn first_free(b: Booking) -> Turn
+    ensures { λ r. ⌜ r ≡ started (b .watch .channel .counts) (b .frees) ⌝ }
+{
+    started(counts_in(b), b.frees)
+}
+
+fn first_mark(b: Booking) -> Turn
+    ensures { λ r. ⌜ r ≡ started (b .watch .channel .counts) (b .marks) ⌝ }
+{
+    started(counts_in(b), b.marks)
+}
+
+fn some_left(t: Turn) -> bool
+    ensures { λ r. ⌜ r ≡ ltb (t .at) slotTimes ⌝ }
+{
+    t.at < SLOT_TIMES
+}
+
+fn free_one(book: &mut [u16], t: Turn, b: Booking) -> Turn
+    requires { ⌜ Steps (now book) t b ⌝ }
+    ensures { λ r. ⌜ FreesOne (now (book .entry)) t b r (now (book .exit)) ⌝ }
+{
+    let before = t.handing;
+    let watch = b.watch;
+    let p = place(watch.present, t.at);
+    let handing = free(book, before.counts, p, holder_of(b));
+    let rows = b.rows;
+    let at = next_time(rows, t.at + 1, false);
+    Turn {
+        handing,
+        at,
+        left: 0,
+        marks: 0,
+    }
+}
+
+// 1 where h holds the place.
+fn held(book: &[u16], at: usize, h: u16) -> usize
+    requires { ⌜ at < length (now book) ⌝ }
+    ensures { λ r. ⌜ r ≡ one (eqb (getD (now (book .entry)) at 0) h) ⌝ }
+{
+    if book[at] == h {
+        return 1;
+    }
+    0
+}
+
+// The time is counted if it is the station's then.
+fn mark_one(book: &mut [u16], t: Turn, b: Booking) -> Turn
+    requires { ⌜ Steps (now book) t b × (t .marks < slotTimes) ⌝ }
+    ensures { λ r. ⌜ MarksOne (now (book .entry)) t b r (now (book .exit)) ⌝ }
+{
+    let before = t.handing;
+    let watch = b.watch;
+    let p = place(watch.present, t.at);
+    let h = holder_of(b);
+    let handing = mark(book, before.counts, p, h);
+    let marks = t.marks + held(book, p, h);
+    let rows = b.rows;
+    let at = next_time(rows, t.at + 1, true);
+    Turn {
+        handing,
+        at,
+        left: 0,
+        marks,
+    }
+}
+
+fn watch_after(b: Booking, t: Turn) -> Watch
+    ensures { λ r. ⌜ r ≡ withCounts (b .watch) (t .handing .counts) ⌝ }
+{
+    let watch = b.watch;
+    let channel = watch.channel;
+    let plan = channel.plan;
+    let handing = t.handing;
+    let counts = handing.counts;
+    let ship = watch.ship;
+    Watch {
+        present: watch.present,
+        channel: Channel { counts, plan },
+        ship,
+    }
+}
+
+fn freed(b: Booking, t: Turn) -> Booking
+    ensures { λ r. ⌜ r ≡ rewatched b (withCounts (b .watch) (t .handing .counts)) ⌝ }
+{
+    let mut r = b;
+    let watch = watch_after(b, t);
+    r.watch = watch;
+    r
+}
+
+fn marked(b: Booking, t: Turn) -> Reply
+    ensures { λ r. ⌜ r ≡ replyOf b (withCounts (b .watch) (t .handing .counts)) (t .marks) ⌝ }
+{
+    let watch = watch_after(b, t);
+    let fit = b.fit;
+    let x = b.telling;
+    match fit {
+        Fit::Yes => Reply {
+            watch,
+            answer: Answer::Heard(Marks {
+                source: x.source,
+                marks: t.marks,
+            }),
+        },
+        Fit::Refused(r) => Reply {
+            watch,
+            answer: Answer::Refused(r),
+        },
+    }
+}
+
+// What the report frees.
+pub fn free_times(reg: &mut [Station], book: &mut [u16], b: Booking) -> Booking
+    requires { ⌜ Booked (now reg) (now book) b ⌝ }
+    ensures { λ r. ⌜ Ends (freedOut b (now (reg .entry)) (now (book .entry))) r (now (reg .exit)) (now (book .exit)) ⌝ }
+{
+    let mut t = first_free(b);
+    while some_left(t) {
+        t = free_one(book, t, b);
+        lose(reg, t);
+        win(reg, t);
+    }
+    freed(b, t)
+}
+
+// What it marks; the answer.
+pub fn mark_times(reg: &mut [Station], book: &mut [u16], b: Booking) -> Reply
+    requires { ⌜ Booked (now reg) (now book) b ⌝ }
+    ensures { λ r. ⌜ Ends (markedOut b (now (reg .entry)) (now (book .entry))) r (now (reg .exit)) (now (book .exit)) ⌝ }
+{
+    let mut t = first_mark(b);
+    while some_left(t) {
+        t = mark_one(book, t, b);
+        lose(reg, t);
+        win(reg, t);
+    }
+    marked(b, t)
 }

@@ -1,7 +1,8 @@
 -- A call that chooses: a slot of the window meant, which had no own mark, is ours, in the frames after it too.
 -- Assumes nothing.
 use mathlib.Core.Path.{_≡_, refl, sym, ap, _∙_}
-use mathlib.Core.List.{List, []}
+use mathlib.Core.Bool.{false, true≢false}
+use mathlib.Core.List.{List}
 use Prim.Native.Nat.{ℕ, zero, suc, _+_, _*_, _<_}
 use native.Mathlib.Omega.{arith}
 use borrow.Author.Tests.{ltb-true}
@@ -11,133 +12,126 @@ use Rattle.laws.specs.Tests.{between}
 use Rattle.laws.specs.Exactly.{AllHold}
 use Rattle.laws.specs.Loops.{upto}
 use Rattle.laws.proofs.Tests.{was-false, both-left}
-use Rattle.laws.proofs.Ladder.{all-answered, all-through}
-use Rattle.limits.specs.Limits.{frameSlots, leastTimeOut, mostTimeOut}
-use Rattle.book.specs.declared.Standing.{Standing}
-use Rattle.book.specs.Book.{Book, ours, holders, place, bookOf, talliesOf, putAt}
-use Rattle.book.proofs.Once.{parts-make}
+use Rattle.limits.specs.Limits.{frameSlots, slotTimes, records, leastTimeOut, mostTimeOut}
+use Rattle.ship.specs.declared.Station.{Station}
+use Rattle.book.specs.Book.{Book, ours, place, holder, bookOf, putAt}
+use Rattle.book.proofs.Lengths.{put-sizes}
 use Rattle.book.proofs.Plans.{in-range}
-use Rattle.book.proofs.Lengths.{all-records}
-use Rattle.candidates.specs.Window.{distanceIn}
+use Rattle.candidates.specs.declared.Picked.{Picked}
+use Rattle.candidates.specs.declared.Picked.the-variants.{At, NoCandidate, SentBack, Taken}
+use Rattle.candidates.specs.Window.{isNo, isBack, distanceIn, numberIn}
 use Rattle.candidates.specs.Promises.{Picks}
+use Rattle.candidates.proofs.Promised.{pick-is-candidate}
 use Rattle.choosing.specs.declared.Wanted.{Wanted}
-use Rattle.choosing.specs.declared.Choice.{Choice}
-use Rattle.choosing.specs.declared.Chosen.{Chosen}
-use Rattle.choosing.specs.declared.Chosen.the-variants.{Done as IsChosen, Refused as NotChosen}
-use Rattle.choosing.specs.Own.{worldOf, ownAt, ownFrames}
-use Rattle.choosing.specs.Choosing.{
-  chosenNumber,
-  Lists,
-  listsOf,
-  askFits,
-  pickedIn,
-  chooseTests,
-  worldAfter,
-  choiceOf,
-  choiceIn,
-  chooseAnswer,
-  chooseLeft,
-}
-use Rattle.choosing.proofs.Promised.{chosen-is-candidate, marks-in-the-book}
-use Rattle.register.specs.declared.Order.{Order}
-use Rattle.register.specs.declared.What.the-variants.{Choose}
-use Rattle.answering.specs.declared.Answer.the-variants.{Refused}
-use Rattle.answering.specs.Answering.{standingOf, chosenOut, leftChosen, agedOrder}
-use Rattle.promises.specs.Calls.{Kept, bookIn}
-use Rattle.promises.specs.Windows.{planIn}
-use Rattle.promises.proofs.Lengths.{all-holders, frames-sizes}
-use Rattle.promises.proofs.Settled.{talliesIn, tallies-are, sources-stay}
-use Rattle.promises.proofs.Staying.{leftBy, Moved, stays}
-use Rattle.promises.proofs.Moves.{Fine, windowIn, worldIn, ChosenBy}
+use Rattle.choosing.specs.Choosing.{askFits, viewOf}
+use Rattle.choosing.specs.Choose.{drawnIn, chosen, chooseTests}
+use Rattle.choosing.proofs.Choosing.{not-taken}
+use Rattle.register.specs.declared.Slot.{Slot}
+use Rattle.register.specs.State.{State, bookIn, sourcesIn, settle, owned}
+use Rattle.register.proofs.Settling.{bookIn-settle}
+use Rattle.calls.specs.Calls.{planIn}
+use Rattle.promises.proofs.Moves.{Fine, windowIn, ownedIn, ChosenBy}
+use Rattle.promises.proofs.Written.{all-tallies, as-many, written-sources, written-present, written-plan, held-stays}
 
--- whatever the reaches are, the book gets the same marks
-any-reach : (present d : ℕ) (b : Book) (o o′ : List ℕ) (n : ℕ)
-    → ownFrames present d (record { book = b; reach = o }) n .book ≡ ownFrames present d (record { book = b; reach = o′ }) n .book
-unfolding upto ownAt
-any-reach present d b o o′ zero = refl
-any-reach present d b o o′ (suc n) = ap (λ (c : Book). putAt c (place present (d + frameSlots * n)) ours) (any-reach present d b o o′ n)
+-- ---- one place that becomes ours
 
-module _ (s : Kept) (f : Fine s) (a : Wanted) (vs : List ℕ) where
-  abbrev us : List ℕ
-  us = talliesIn (s .reg)
+module _ (s : State) (at : ℕ) (many : length (s .reg) ≡ records) where
+  -- the book with the place ours, and the state with it written back
+  abbrev put : Book
+  put = putAt (bookIn s) at ours
 
-  abbrev lists : Lists
-  lists = listsOf (s .book) us vs
+  abbrev written : State
+  written = settle put s
 
-  abbrev now : Standing
-  now = standingOf (s .watch)
+  owned-book : bookIn (owned s at) ≡ put
+  unfolding owned
+  owned-book =
+      ap (λ (ts : List ℕ). bookOf (written .book) ts (written .watch .channel .counts))
+      (held-stays (λ (r : Station). r .tally) (λ r h. refl) (holder (bookIn s) at) (written .reg))
+      ∙ bookIn-settle s put many (put-sizes (bookIn s) at ours .1 ∙ all-tallies s many)
 
-  abbrev answer : Chosen
-  answer = chooseAnswer lists now (planIn s) a
+  owned-sources : sourcesIn (owned s at .reg) ≡ sourcesIn (s .reg)
+  unfolding owned
+  owned-sources =
+      held-stays (λ (r : Station). r .source) (λ r h. refl) (holder (bookIn s) at) (written .reg) ∙ written-sources put s
 
-  -- the book with the slot x ahead and those in the frames after it ours
-  abbrev after : ℕ → Book
-  after x = worldAfter lists now (a .timeout) x .book
+  owned-present : owned s at .watch .present ≡ s .watch .present
+  unfolding owned
+  owned-present = written-present put s
 
-  after-is : (x : ℕ) → after x ≡ ownFrames (s .watch .present) x (worldIn s) (suc (a .timeout)) .book
-  unfolding worldAfter
-  after-is x =
-      let number : a .timeout + 1 ≡ suc (a .timeout) = omega arith in
-      any-reach (s .watch .present) x (bookIn s) vs [] (a .timeout + 1)
-      ∙ ap (λ (n : ℕ). ownFrames (s .watch .present) x (worldIn s) n .book) number
+  owned-plan : planIn (owned s at) ≡ planIn s
+  unfolding owned
+  owned-plan = written-plan put s
 
-  after-all : (x : ℕ) → length (after x .tallies) ≡ holders
-  unfolding worldAfter
-  after-all x =
-      frames-sizes (s .watch .present) x (worldOf (s .book) us vs (s .watch .channel .counts)) (a .timeout + 1) .1 ∙ all-holders s f
+-- ---- n places, a frame apart
 
-  -- a slot that was chosen
-  module _ (c : Choice) (e : IsChosen c ≡ answer) where
-    -- every test held
-    held : AllHold (chooseTests lists now (planIn s) a)
-    unfolding chooseAnswer chooseTests
-    held =
-        all-answered chosenNumber (chooseTests lists now (planIn s) a) (IsChosen (choiceIn lists now (planIn s) a)) tt (ap chosenNumber (sym e))
+-- the slot x ahead is ours, n times in all; sources, now and plan are as they were
+record OwnedBy (x n : ℕ) (s s′ : State) : Type 0 where
+  book : bookIn s′ ≡ ownedIn (s .watch .present) x (bookIn s) n
+  sources : sourcesIn (s′ .reg) ≡ sourcesIn (s .reg)
+  present : s′ .watch .present ≡ s .watch .present
+  plan : planIn s′ ≡ planIn s
 
-    -- so the answer is the one that is given then
-    given : c ≡ choiceIn lists now (planIn s) a
-    unfolding chooseAnswer
-    given = let g = e ∙ all-through (chooseTests lists now (planIn s) a) (IsChosen (choiceIn lists now (planIn s) a)) held in cc
+module _ (s : State) (f : Fine s) (x : ℕ) where
+  abbrev owns : ℕ → State
+  owns = upto (λ t i. owned t (place (s .watch .present) (x + frameSlots * i))) s
 
-    abbrev drawn : ℕ
-    drawn = distanceIn (pickedIn lists now (planIn s) a)
+  owns-by : (n : ℕ) → OwnedBy x n s (owns n)
+  unfolding upto
+  owns-by zero = record { book = refl; sources = refl; present = refl; plan = refl }
+  owns-by (suc n) =
+      let t = owns n in
+      let b = owns-by n in
+      let at : ℕ = place (s .watch .present) (x + frameSlots * n) in
+      let many : length (t .reg) ≡ records = as-many (s .reg) (t .reg) (b .sources) ∙ f .register in
+      record {
+        book = owned-book t at many ∙ ap (λ (c : Book). putAt c at ours) (b .book);
+        sources = owned-sources t at many ∙ b .sources;
+        present = owned-present t at many ∙ b .present;
+        plan = owned-plan t at many ∙ b .plan;
+      }
 
-    distance-is : drawn ≡ c .distance
-    unfolding choiceOf
-    distance-is = sym (ap (λ (x : Choice). x .distance) given)
+  chosen-by : (m : ℕ) → OwnedBy x (suc m) s (chosen s x m)
+  unfolding chosen
+  chosen-by m = owns-by (suc m)
 
-    picks : Picks (s .book) vs (windowIn s a) (c .distance) (c .candidates)
-    picks = chosen-is-candidate lists (chooseLeft lists now (planIn s) a (IsChosen c)) now (planIn s) a c (e, refl)
+-- ---- the call
 
-    known : a .k < planIn s .rate
-    unfolding chooseTests askFits
-    known = ltb-true (a .k) (planIn s .rate) (both-left (ltb (a .k) (planIn s .rate)) (between leastTimeOut mostTimeOut (a .timeout)) (held .1 .1 .0))
+-- what is neither without candidates nor sent back nor a taken window is a slot
+is-at : (p : Picked) → (p ≡ Taken → ⊥) → isNo p ≡ false → isBack p ≡ false → p ≡ At (distanceIn p) (numberIn p)
+is-at (At x n) t e f = refl
+is-at NoCandidate t e f = absurd (true≢false e)
+is-at SentBack t e f = absurd (true≢false f)
+is-at Taken t e f = absurd (t refl)
 
-    chosen-by : ChosenBy a (record { distance = c .distance; slot = c .slot; candidates = c .candidates; replaced = c .replaced }) s
-        (leftBy s (leftChosen (s .watch) (IsChosen c) (chooseLeft lists now (planIn s) a (IsChosen c))))
-    unfolding chosenOut chooseTests choiceOf
-    chosen-by =
-        let order : Order = agedOrder 0 (chosenOut (s .watch) c .order) in
-        let b = after drawn in
-        let vs′ = worldAfter lists now (a .timeout) drawn .reach in
-        let tallies = tallies-are order refl (talliesOf b) vs′ (s .reg) (f .register) (all-records b (after-all drawn)) in
-        record {
-          ranged = in-range (planIn s) (held .1 .0);
-          known = known;
-          free = was-false (held .1 .1 .1 .0);
-          from = omega (arith, picks .there);
-          to = omega (arith, picks .there, picks .candidate .inside);
-          within = marks-in-the-book lists (chooseLeft lists now (planIn s) a (IsChosen c)) now (planIn s) a c (e, refl);
-          book = (λ i. bookOf (b .slots) (tallies i) (given i .counts))
-              ∙ parts-make b (after-all drawn) ∙ after-is drawn
-              ∙ ap (λ (x : ℕ). ownFrames (s .watch .present) x (worldIn s) (suc (a .timeout)) .book) distance-is;
-          sources = sources-stay order refl (talliesOf b) vs′ (s .reg) (f .register) refl;
-          present = refl;
-          plan = refl;
-        }
+module _ (s : State) (a : Wanted) (f : Fine s) (held : AllHold (chooseTests s a)) where
+  abbrev drawn : ℕ
+  drawn = distanceIn (drawnIn s a)
 
-  pub choose-moves : (h : Chosen) → h ≡ answer
-      → Moved s (Choose a) (leftChosen (s .watch) h (chooseLeft lists now (planIn s) a h))
-  unfolding chosenOut
-  choose-moves (IsChosen c) e = chosen-by c e
-  choose-moves (NotChosen r) e = stays s f (s .watch) (Refused r) vs refl refl
+  picks : Picks (viewOf (s .reg) (s .book) (s .watch)) (windowIn s a) drawn (numberIn (drawnIn s a))
+  unfolding chooseTests
+  picks =
+      let found = is-at (drawnIn s a) (not-taken _ _ _) (was-false (held .1 .1 .1 .1 .0)) (was-false (held .1 .1 .1 .1 .1 .0)) in
+      pick-is-candidate (viewOf (s .reg) (s .book) (s .watch)) (windowIn s a) (a .draw) drawn (numberIn (drawnIn s a)) found
+
+  known : a .k < planIn s .rate
+  unfolding chooseTests askFits
+  known = ltb-true (a .k) (planIn s .rate) (both-left (ltb (a .k) (planIn s .rate)) (between leastTimeOut mostTimeOut (a .timeout)) (held .1 .1 .0))
+
+  pub choose-moves : (c : Slot) → c .distance ≡ drawn → ChosenBy a c s (chosen s drawn (a .timeout))
+  unfolding chooseTests
+  choose-moves c e =
+      let b = chosen-by s f drawn (a .timeout) in
+      let last = ltb-true (drawn + frameSlots * a .timeout) slotTimes (held .1 .1 .1 .1 .1 .1) in
+      record {
+        ranged = in-range (planIn s) (held .1 .0);
+        known = known;
+        free = was-false (held .1 .1 .1 .0);
+        from = omega (arith, e, picks .there);
+        to = omega (arith, e, picks .there, picks .candidate .inside);
+        within = omega (arith, e, last);
+        book = b .book ∙ ap (λ (x : ℕ). ownedIn (s .watch .present) x (bookIn s) (suc (a .timeout))) (sym e);
+        sources = b .sources;
+        present = b .present;
+        plan = b .plan;
+      }

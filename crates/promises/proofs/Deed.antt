@@ -4,19 +4,16 @@ use Rattle.packet.proofs.RoundTrip as packet
 use Rattle.packet.proofs.Exactly as packet-numbers
 use Rattle.message.proofs.RoundTrip as message
 use Rattle.message.proofs.Exactly as message-numbers
-use Rattle.ship.proofs.Promised as ship
-use Rattle.book.proofs.Promised as book
 use Rattle.hearing.proofs.Promised as hearing
 use Rattle.candidates.proofs.Promised as candidates
-use Rattle.choosing.proofs.Promised as choosing
-use Rattle.reporting.proofs.Promised as reporting
+use Rattle.choosing.proofs.Chosen as choosing
+use Rattle.choosing.proofs.HoldingOff as holding
 use Rattle.board.proofs.Once as board
 use Rattle.calls.proofs.Promised as calls
-use Rattle.calls.proofs.Passing as passing
 use Rattle.journal.proofs.Promised as journal
 use Rattle.promises.specs.Deed.{Deed}
 use Rattle.promises.proofs.Holders.{holders-by-events}
-use Rattle.promises.proofs.Counted.{tallies-are-counts, all-make-the-whole}
+use Rattle.promises.proofs.Counted.{tallies-are-counts, all-make-the-whole, call-keeps, plan-leaves-none}
 use Rattle.promises.proofs.Windows.{own-in-windows}
 use Rattle.promises.proofs.Twelve.{marked-examples}
 use Rattle.promises.proofs.Contracts.{by-the-code}
@@ -29,15 +26,18 @@ deed =
         packet-read = packet-numbers.read-exactly;
         message-written = message-numbers.write-exactly;
         message-read = message-numbers.read-exactly;
-        bytes-heard = hearing.bytes-exactly;
+        passed = calls.pass-exactly;
         heard = hearing.hear-exactly;
-        planned = book.plan-exactly;
-        own = ship.own-exactly;
+        planned = calls.plan-exactly;
+        own = calls.own-exactly;
         chosen = choosing.choose-exactly;
         never-beyond = choosing.never-beyond;
-        reported = reporting.report-exactly;
-        nothing-changed = calls.refused-keeps-all;
-        only-passes = passing.refused-still-passes;
+        reported = calls.report-exactly;
+        begun = calls.begin-exactly;
+        summed = calls.sum-exactly;
+        nothing-changed = calls.refused-keeps;
+        only-passes = calls.refused-passes;
+        lengths-first = calls.lengths-first;
       };
       agrees = record {
         packet-back = packet.read-after-write;
@@ -46,6 +46,8 @@ deed =
         message-again = message.write-after-read;
         holders = holders-by-events;
         picked = choosing.chosen-is-candidate;
+        marks-in-the-book = choosing.marks-in-the-book;
+        only-replaced-held-off = holding.only-replaced-held-off;
         equal-draws = candidates.equal-draws-each;
         rest-sent-back = candidates.rest-sent-back;
         none-exactly = candidates.none-exactly;
@@ -55,7 +57,13 @@ deed =
         cut-anywhere = journal.however-cut;
         sum-is-last = journal.sum-is-last;
       };
-      adds = record { tallies = tallies-are-counts; whole = all-make-the-whole; windows = own-in-windows };
+      adds = record {
+        tallies = tallies-are-counts;
+        whole = all-make-the-whole;
+        each-call = call-keeps;
+        none-after-a-plan = plan-leaves-none;
+        windows = own-in-windows;
+      };
       once = record {
         packet-written = packet.write-once;
         packet-read = packet.read-once;

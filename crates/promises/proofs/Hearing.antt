@@ -1,118 +1,87 @@
 -- A call that hears a station: its record has it, and the book what it announces.
 -- Assumes nothing.
-use mathlib.Core.Path.{_≡_, refl, sym, ap, _∙_}
+use mathlib.Core.Path.{_≡_, refl, ap, _∙_}
 use mathlib.Core.Bool.{not}
 use mathlib.Core.List.{List}
-use Prim.Native.Nat.{ℕ, suc, _+_, _<_}
+use Prim.Native.Nat.{ℕ, suc, _<_}
 use native.Mathlib.Omega.{arith}
 use borrow.Author.Tests.{ltb-true}
 use lib.Dec.{eqb}
-use lib.ListN.{length, set, length-map}
+use lib.ListN.{length, getD, set, length-set}
+use lib.Seq.{map-set-same}
 use Rattle.laws.specs.Tests.{between}
 use Rattle.laws.specs.Exactly.{AllHold}
 use Rattle.laws.proofs.Tests.{both-left, between-is}
-use Rattle.laws.proofs.Ladder.{all-answered, all-through}
 use Rattle.limits.specs.Limits.{records}
-use Rattle.ship.specs.Ship.{fairSource}
-use Rattle.book.specs.Book.{Book, holders, bookOf, talliesOf}
-use Rattle.book.proofs.Once.{tallies-back, parts-make}
-use Rattle.book.proofs.Lengths.{all-records}
-use Rattle.hearing.specs.declared.Telling.{Telling}
-use Rattle.hearing.specs.declared.Told.the-variants.{Station as Told}
-use Rattle.hearing.specs.declared.Hearing.{Hearing}
-use Rattle.hearing.specs.declared.Heard.{Heard}
-use Rattle.hearing.specs.declared.Heard.the-variants.{Done as IsHeard, Refused as NotHeard}
+use Rattle.ship.specs.declared.Station.{Station}
+use Rattle.ship.specs.Ship.{blank, fairSource}
+use Rattle.book.specs.declared.Watch.{Watch}
+use Rattle.book.specs.Book.{Book, bookOf}
 use Rattle.announcing.specs.Rows.{booked}
 use Rattle.announcing.specs.Announce.{announces}
 use Rattle.announcing.proofs.Effect.{booked-sizes}
-use Rattle.hearing.specs.Station.{fairOther, recordOf}
-use Rattle.hearing.specs.Hear.{heardNumber, Lists, listsOf, recordIn as recordOfLists, hearTests, bookAfter, hearingOf, hearAnswer, hearLeft}
-use Rattle.register.specs.declared.Order.{Order}
-use Rattle.register.specs.declared.What.the-variants.{Hear}
-use Rattle.answering.specs.declared.Answer.the-variants.{Refused}
-use Rattle.answering.specs.Answering.{standingOf, heardOut, leftHeard, agedOrder}
-use Rattle.promises.specs.Calls.{Kept, bookIn, sourcesIn}
-use Rattle.promises.proofs.Lengths.{all-holders}
-use Rattle.promises.proofs.Settled.{talliesIn, tallies-are, sources-set}
-use Rattle.promises.proofs.Staying.{leftBy, Moved, stays}
+use Rattle.hearing.specs.declared.Telling.{Telling}
+use Rattle.hearing.specs.Station.{fairOther}
+use Rattle.hearing.specs.Hear.{tellingIn, entered, stored, heard, hearTests}
+use Rattle.register.specs.State.{State, bookIn, sourcesIn}
+use Rattle.register.proofs.Settling.{map-set, bookIn-settle}
 use Rattle.promises.proofs.Moves.{Fine, HeardBy, recordIn}
+use Rattle.promises.proofs.Written.{all-tallies, written-sources, written-present, written-plan}
 
-module _ (s : Kept) (f : Fine s) (x : Telling) where
-  abbrev lists : Lists
-  lists = listsOf (s .book) (talliesIn (s .reg)) (sourcesIn s)
+-- the station is stored: the book is as it was, and its record has its source
+module _ (s : State) (x : Telling) where
+  abbrev old : Station
+  old = getD (s .reg) (recordIn s x) blank
 
-  abbrev answer : Heard
-  answer = hearAnswer lists (standingOf (s .watch)) (s .watch .ship .source) (Told x)
+  stored-book : bookIn (stored s x) ≡ bookIn s
+  unfolding stored entered
+  stored-book =
+      ap (λ (ts : List ℕ). bookOf (s .book) ts (s .watch .channel .counts))
+      (map-set-same (λ (r : Station). r .tally) (s .reg) (recordIn s x) (entered x old) blank refl)
 
-  -- a station that was heard
-  module _ (d : Hearing) (e : IsHeard d ≡ answer) where
-    -- every test held
-    held : AllHold (hearTests lists (s .watch .ship .source) x)
-    unfolding hearTests
-    held =
-        all-answered heardNumber (hearTests lists (s .watch .ship .source) x) (IsHeard (hearingOf lists (standingOf (s .watch)) x)) tt
-        (ap heardNumber (sym e))
+  stored-sources : sourcesIn (stored s x .reg) ≡ set (sourcesIn (s .reg)) (recordIn s x) (x .source)
+  unfolding stored entered
+  stored-sources = map-set (λ (r : Station). r .source) (s .reg) (recordIn s x) (entered x old)
 
-    -- so the answer is the one that is given then
-    given : d ≡ hearingOf lists (standingOf (s .watch)) x
-    given =
-        let g = e ∙ all-through (hearTests lists (s .watch .ship .source) x) (IsHeard (hearingOf lists (standingOf (s .watch)) x)) held in
-        cc
+  stored-many : length (stored s x .reg) ≡ length (s .reg)
+  unfolding stored
+  stored-many = length-set (s .reg) _ _
 
-    -- the station's record
-    record-is : recordOfLists lists x ≡ recordIn s x
-    record-is =
-        let back = tallies-back (s .book) (talliesIn (s .reg)) (s .watch .channel .counts) (length-map (s .reg) _ ∙ f .register) in
-        ap (λ (t : List ℕ). recordOf (sourcesIn s) t (x .source)) (sym back)
+  stored-watch : stored s x .watch ≡ s .watch
+  unfolding stored
+  stored-watch = refl
 
-    at-is : d .at ≡ recordIn s x
-    unfolding hearingOf
-    at-is = ap (λ (h : Hearing). h .at) given ∙ record-is
+module _ (s : State) (bytes : List ℕ) (f : Fine s) (held : AllHold (hearTests s bytes)) where
+  abbrev told : Telling
+  told = tellingIn bytes
 
-    -- the book with what it announces
-    abbrev after : Book
-    after = bookAfter lists (standingOf (s .watch)) x
+  known : 0 < told .source
+  unfolding hearTests fairOther fairSource
+  known =
+      let fair = both-left (between 1 999999999 (told .source)) (not (eqb (told .source) (s .watch .ship .source))) (held .1 .1 .1 .0) in
+      omega (arith, between-is 1 999999999 (told .source) fair .0)
 
-    after-is : after ≡ booked (s .watch .present) (suc (recordIn s x)) (announces (x .state)) (bookIn s)
-    unfolding bookAfter
-    after-is =
-        let number : recordOfLists lists x + 1 ≡ suc (recordIn s x) = omega (arith, record-is) in
-        ap (λ (h : ℕ). booked (s .watch .present) h (announces (x .state)) (bookIn s)) number
+  there : recordIn s told < records
+  unfolding hearTests
+  there = ltb-true (recordIn s told) records (held .1 .1 .1 .1 .1 .0)
 
-    after-all : length (after .tallies) ≡ holders
-    unfolding bookAfter
-    after-all =
-        booked-sizes (s .watch .present) (recordOfLists lists x + 1) (announces (x .state)) (bookIn s) .1 ∙ all-holders s f
+  -- what it announces, in the book of a state
+  abbrev announced : State → Book
+  announced t = booked (s .watch .present) (suc (recordIn s told)) (announces (told .state)) (bookIn t)
 
-    known : 0 < x .source
-    unfolding hearTests fairOther fairSource
-    known =
-        let fair = both-left (between 1 999999999 (x .source)) (not (eqb (x .source) (s .watch .ship .source))) (held .1 .0) in
-        omega (arith, between-is 1 999999999 (x .source) fair .0)
-
-    there : recordIn s x < records
-    unfolding hearTests
-    there = omega (arith, ltb-true (recordOfLists lists x) records (held .1 .1 .1 .0), record-is)
-
-    heard-by : HeardBy x s (leftBy s (leftHeard (s .watch) x (IsHeard d) (hearLeft lists (standingOf (s .watch)) (Told x) (IsHeard d))))
-    unfolding heardOut hearTests hearingOf
-    heard-by =
-        let order : Order = agedOrder 0 (heardOut (s .watch) x d .order) in
-        let vs = set (sourcesIn s) (recordOfLists lists x) (x .source) in
-        let tallies = tallies-are order refl (talliesOf after) vs (s .reg) (f .register) (all-records after after-all) in
-        record {
-          known = known;
-          there = there;
-          within = held .1 .1 .1 .1;
-          book = (λ i. bookOf (after .slots) (tallies i) (given i .counts)) ∙ parts-make after after-all ∙ after-is;
-          sources = sources-set order refl (talliesOf after) vs (s .reg) (f .register) (recordIn s x) (x .source) at-is
-              (ap (λ (k : ℕ). set (sourcesIn s) k (x .source)) record-is);
-          present = refl;
-          plan = refl;
-        }
-
-  pub hear-moves : (h : Heard) → h ≡ answer
-      → Moved s (Hear (Told x)) (leftHeard (s .watch) x h (hearLeft lists (standingOf (s .watch)) (Told x) h))
-  unfolding heardOut
-  hear-moves (IsHeard d) e = heard-by d e
-  hear-moves (NotHeard r) e = stays s f (s .watch) (Refused r) (sourcesIn s) refl refl
+  pub hear-moves : HeardBy told s (heard s told)
+  unfolding heard hearTests
+  hear-moves =
+      let t = stored s told in
+      let many : length (t .reg) ≡ records = stored-many s told ∙ f .register in
+      let sizes = booked-sizes (s .watch .present) (suc (recordIn s told)) (announces (told .state)) (bookIn t) in
+      record {
+        known = known;
+        there = there;
+        within = held .1 .1 .1 .1 .1 .1;
+        book = bookIn-settle t (announced t) many (sizes .1 ∙ all-tallies t many)
+            ∙ ap (booked (s .watch .present) (suc (recordIn s told)) (announces (told .state))) (stored-book s told);
+        sources = written-sources (announced t) t ∙ stored-sources s told;
+        present = written-present (announced t) t ∙ ap (λ (w : Watch). w .present) (stored-watch s told);
+        plan = written-plan (announced t) t ∙ ap (λ (w : Watch). w .channel .plan) (stored-watch s told);
+      }

@@ -12,21 +12,24 @@ use Rattle.laws.specs.Tests.{pick}
 use Rattle.laws.specs.Ranges.{some}
 use Rattle.laws.proofs.Tests.{pick-of}
 use Rattle.limits.specs.Limits.{frameSlots, slotTimes, records}
+use Rattle.ship.specs.declared.Station.{Station}
+use Rattle.ship.specs.Ship.{blank}
 use Rattle.book.specs.Book.{ours, place, holder}
 use Rattle.book.specs.Pass.{Moment}
 use Rattle.book.specs.Sound.{Sound}
+use Rattle.book.proofs.Once.{tallies-back}
 use Rattle.hearing.specs.declared.Telling.{Telling}
+use Rattle.hearing.specs.Station.{recordOf}
 use Rattle.announcing.specs.declared.rows.Row.{Row}
 use Rattle.announcing.specs.Announce.{announces}
 use Rattle.choosing.specs.declared.Wanted.{Wanted}
-use Rattle.register.specs.declared.Station.{Station}
-use Rattle.register.specs.Register.{blank}
-use Rattle.answering.specs.declared.Slot.{Slot}
-use Rattle.promises.specs.Calls.{Kept, newState, afterAll, bookIn, sourcesIn}
+use Rattle.register.specs.declared.Slot.{Slot}
+use Rattle.register.specs.State.{State, newState, talliesIn, sourcesIn, bookIn}
+use Rattle.promises.specs.Calls.{afterAll}
 use Rattle.promises.specs.History.{Event, Who, pastOf, timeOf, afterEvent, givenUp, holderOf, whoOf, whoIn, HoldersByEvents}
 use Rattle.promises.specs.History.Event.{passed, heard, owned, planned}
 use Rattle.promises.specs.History.Who.{nobody, us}
-use Rattle.promises.proofs.Moves.{Fine, Stays, momentIn, PassedBy, recordIn, HeardBy, PlannedBy, worldIn, ChosenBy}
+use Rattle.promises.proofs.Moves.{Fine, Stays, momentIn, PassedBy, recordIn, HeardBy, PlannedBy, ChosenBy}
 use Rattle.promises.proofs.Stands.{Stands}
 use Rattle.promises.proofs.Lasting.{new-present}
 use Rattle.promises.proofs.Grown.{always}
@@ -36,17 +39,17 @@ use Rattle.promises.proofs.Known.{Apart, Meant, who-nobody, who-us, who
 use Rattle.promises.proofs.Announced.{heard-after, heard-beyond}
 
 -- the book and the register agree with the events
-pub record Agrees (s : Kept) (es : List Event) : Type 0 where
+pub record Agrees (s : State) (es : List Event) : Type 0 where
   pub sound : Sound (bookIn s)
   pub here : s .watch .present ≡ timeOf es % slotTimes
-  pub apart : Apart (sourcesIn s)
-  pub inside : (t : ℕ) → timeOf es ≤ t → t < timeOf es + slotTimes → whoOf (sourcesIn s) (holder (bookIn s) (t % slotTimes)) ≡ holderOf es t
+  pub apart : Apart (sourcesIn (s .reg))
+  pub inside : (t : ℕ) → timeOf es ≤ t → t < timeOf es + slotTimes → whoOf (sourcesIn (s .reg)) (holder (bookIn s) (t % slotTimes)) ≡ holderOf es t
   pub beyond : (t : ℕ) → timeOf es + slotTimes ≤ t → holderOf es t ≡ nobody
 
 -- ---- a new state
 
 module _ (n m i : ℕ) where
-  new-source : i < m → getD (sourcesIn (newState n m)) i 0 ≡ 0
+  new-source : i < m → getD (sourcesIn (newState n m .reg)) i 0 ≡ 0
   unfolding newState
   new-source p =
       List·getD-map (λ (r : Station). r .source) (replicate m blank) i blank ∙ ap (λ (r : Station). r .source) (getD-replicate m i blank blank p)
@@ -68,13 +71,13 @@ agrees-new =
 
 -- ---- whatever happens
 
-module _ (s s′ : Kept) (es : List Event) (p : Agrees s es) where
+module _ (s s′ : State) (es : List Event) (p : Agrees s es) where
   -- the present time
   abbrev u : ℕ
   u = timeOf es
 
   abbrev sources : List ℕ
-  sources = sourcesIn s
+  sources = sourcesIn (s .reg)
 
   agrees-stays : Stays s s′ → Agrees s′ es
   agrees-stays b =
@@ -122,7 +125,10 @@ module _ (s s′ : Kept) (es : List Event) (p : Agrees s es) where
       many = length-map (s .reg) (λ (r : Station). r .source) ∙ f .register
 
       chosen : Meant (bookIn s) sources source k
-      chosen = meant (bookIn s) sources source (p .sound) many (b .there)
+      chosen =
+          subst (λ (ts : List ℕ). recordOf sources ts source < records → Meant (bookIn s) sources source (recordOf sources ts source))
+          (tallies-back (s .book) (talliesIn (s .reg)) (s .watch .channel .counts) (length-map (s .reg) (λ (r : Station). r .tally) ∙ f .register))
+          (meant (bookIn s) sources source (p .sound) many) (b .there)
 
       apart-then : Apart (set sources k source)
       apart-then = still-apart (bookIn s) sources source (p .sound) many k (b .there) chosen (p .apart)
@@ -171,7 +177,7 @@ module _ (s s′ : Kept) (es : List Event) (p : Agrees s es) where
           apart = subst Apart (sym (b .sources)) (p .apart);
           inside = λ t from to.
               let among = some (λ i. eqb t (u + (d + frameSlots * i))) in
-              let after = own-after (worldIn s) u t (s .watch .present) d (p .here) (p .sound) (omega arith) (omega arith) in
+              let after = own-after (bookIn s) u t (s .watch .present) d (p .here) (p .sound) (omega arith) (omega arith) in
               let all : suc (a .timeout) ≡ a .timeout + 1 = omega arith in
               (λ i. whoOf (b .sources i) (holder (b .book i) (t % slotTimes)))
               ∙ ap (whoOf sources) (after (suc (a .timeout)) (omega (arith, b .within)))
@@ -198,10 +204,10 @@ agreed =
 
 -- ---- the slot time d ahead
 
-pub holder-ahead : (s : Kept) (es : List Event) → Agrees s es → (d : ℕ) → d < slotTimes → whoIn s d ≡ holderOf es (timeOf es + d)
+pub holder-ahead : (s : State) (es : List Event) → Agrees s es → (d : ℕ) → d < slotTimes → whoIn s d ≡ holderOf es (timeOf es + d)
 holder-ahead s es p d l =
     let at : place (s .watch .present) d ≡ (timeOf es + d) % slotTimes = omega (arith, p .here) in
-    ap (λ (y : ℕ). whoOf (sourcesIn s) (getD (s .book) y 0)) at ∙ p .inside (timeOf es + d) (omega arith) (omega arith)
+    ap (λ (y : ℕ). whoOf (sourcesIn (s .reg)) (getD (s .book) y 0)) at ∙ p .inside (timeOf es + d) (omega arith) (omega arith)
 
 pub holders-by-events : HoldersByEvents
 holders-by-events cs = holder-ahead (afterAll cs) (pastOf cs) (always Agrees agreed cs)

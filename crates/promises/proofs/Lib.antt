@@ -3,7 +3,6 @@ pub mod Choosing
 pub mod Contracts
 pub mod Counted
 pub mod Deed
-pub mod Ended
 pub mod Grown
 pub mod Hearing
 pub mod Holders
@@ -17,8 +16,7 @@ pub mod Ours
 pub mod Passing
 pub mod Places
 pub mod Planning
-pub mod Settled
 pub mod Stands
-pub mod Staying
 pub mod Twelve
 pub mod Windows
+pub mod Written

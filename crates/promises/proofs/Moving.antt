@@ -1,93 +1,93 @@
 -- What a call without passes does, by its answer.
 -- Assumes nothing.
-use mathlib.Core.Path.{_≡_, refl, sym, ap, subst, _∙_}
-use mathlib.Core.List.{List}
+use mathlib.Core.Path.{refl}
+use mathlib.Core.Bool.{Bool, true, false}
+use mathlib.Core.List.{List, [], _∷_}
 use Prim.Native.Nat.{ℕ}
-use borrow.Author.Tests.{eq-eqb}
-use lib.ListN.{length, replicate}
-use Rattle.laws.specs.Counting.{sum}
+use Rattle.laws.specs.Tests.{ladder}
+use Rattle.laws.specs.Exactly.{AllHold}
+use Rattle.laws.specs.Loops.{upto}
 use Rattle.limits.specs.Limits.{slotTimes, records}
-use Rattle.ship.specs.declared.Owned.{Owned}
-use Rattle.ship.specs.declared.Owned.the-variants.{Done as IsSet, Refused as NotSet}
-use Rattle.ship.specs.declared.Ship.{Ship}
-use Rattle.ship.specs.Ship.{ownAnswer}
-use Rattle.hearing.specs.declared.Told.the-variants.{Station as Told, Refused as NotTold}
-use Rattle.reporting.specs.declared.Reported.{Reported}
-use Rattle.reporting.specs.declared.Reported.the-variants.{Done as IsReported, Refused as NotReported}
-use Rattle.reporting.specs.declared.Time.{Time}
-use Rattle.reporting.specs.Report.{reportAnswer}
-use Rattle.register.specs.declared.What.{What}
-use Rattle.register.specs.declared.What.the-variants.{Nothing, Hear, Plan, Own, Choose, Report, New, Sum}
-use Rattle.register.specs.Register.{blank, newWatch, wordOf}
-use Rattle.register.specs.Sheet.{Out}
-use Rattle.answering.specs.declared.Reply.{Reply}
-use Rattle.answering.specs.declared.Answer.the-variants.{Passed, Set, Report as Told·Report, Refused, Sum as Summed}
-use Rattle.answering.specs.Answering.{
-  leaving,
-  begunOut,
-  setOut,
-  ownOut,
-  toldOut,
-  reportOut,
-  newOut,
-  newBook,
-  passedOut,
-  hearCore,
-  planCore,
-  ownCore,
-  chooseCore,
-  reportCore,
-  sumOut,
+use Rattle.hearing.specs.Hear.{tellingIn, hearTests, hears, hear}
+use Rattle.choosing.specs.Choose.{chooseTests, chooses, choose}
+use Rattle.register.specs.declared.Answer.the-variants.{Begun, Passed, Planned, Set}
+use Rattle.register.specs.State.{State, newState}
+use Rattle.register.specs.Answers.{Answered, answered}
+use Rattle.calls.specs.declared.What.{What}
+use Rattle.calls.specs.declared.What.the-variants.{Nothing, Hear, Plan, Own, Choose, Report, New, Sum}
+use Rattle.calls.specs.Calls.{
+  passTests,
+  pass,
+  planned,
+  planTests,
+  plan,
+  owning,
+  ownTests,
+  own,
+  reportTests,
+  reports,
+  report,
+  begin,
+  sum,
+  done,
+  called,
 }
-use Rattle.promises.specs.Calls.{Kept, newState, outOf, afterCall}
-use Rattle.promises.proofs.Settled.{talliesIn, all-new}
-use Rattle.promises.proofs.Ended.{stateIn, wordsIn, coreIn, ended-at-once}
-use Rattle.promises.proofs.Moves.{Fine, MovedBy}
-use Rattle.promises.proofs.Staying.{leftBy, Moved, stays}
-use Rattle.promises.proofs.Hearing.{hear-moves}
+use Rattle.promises.specs.Calls.{Call, answerTo, afterCall}
+use Rattle.promises.proofs.Moves.{Fine, Stays, MovedBy}
 use Rattle.promises.proofs.Planning.{plan-moves}
+use Rattle.promises.proofs.Hearing.{hear-moves}
 use Rattle.promises.proofs.Choosing.{choose-moves}
 
-module _ (s : Kept) (f : Fine s) where
-  abbrev us : List ℕ
-  us = talliesIn (s .reg)
+-- ---- answers that go by tests
 
-  -- calls that leave the book
-  own-moves : (p : Ship) (vs : List ℕ) (h : Owned) → Moved s (Own p) (leaving (ownOut (s .watch) h) us vs (s .book))
-  unfolding setOut
-  own-moves p vs (IsSet x) = stays s f (record { present = s .watch .present; channel = s .watch .channel; ship = x }) Set vs refl refl
-  own-moves p vs (NotSet r) = stays s f (s .watch) (Refused r) vs refl refl
+-- P is of what is given where a test does not hold
+abbrev Each : (Answered → Type 0) → List (Bool × Answered) → Type 0
+Each P [] = Unit {0}
+Each P (t ∷ ts) = P (t .1) × Each P ts
 
-  report-moves : (t : Time) (vs : List ℕ) (h : Reported) → Moved s (Report t) (leaving (reportOut (s .watch) h) us vs (s .book))
-  unfolding toldOut
-  report-moves t vs (IsReported m) = stays s f (s .watch) (Told·Report m) vs refl refl
-  report-moves t vs (NotReported r) = stays s f (s .watch) (Refused r) vs refl refl
+by-tests : (P : Answered → Type 0) (ts : List (Bool × Answered)) (x : Answered) → Each P ts → (AllHold ts → P x) → P (ladder ts x)
+by-tests P [] x n y = y tt
+by-tests P ((true, z) ∷ []) x n y = y refl
+by-tests P ((false, z) ∷ []) x n y = n .0
+by-tests P ((true, z) ∷ u ∷ ts) x n y = by-tests P (u ∷ ts) x (n .1) (λ h. y (refl, h))
+by-tests P ((false, z) ∷ u ∷ ts) x n y = n .0
 
-  -- the call that makes all new
-  new-moves : (n : ℕ) (vs : List ℕ) → leftBy s (leaving begunOut us vs (replicate n 0)) ≡ newState n records
-  unfolding begunOut newState
-  new-moves n vs =
-      let reg = all-new _ refl us vs (s .reg) ∙ ap (λ (m : ℕ). replicate m blank) (f .register) in
-      λ i. record { reg = reg i; book = replicate n 0; watch = newWatch }
+-- ---- the calls
 
-  -- by what is asked
-  core-moves : (q : What) → Moved s q (coreIn s q)
-  unfolding passedOut hearCore planCore ownCore chooseCore reportCore newOut newBook begunOut sumOut wordOf
-  core-moves Nothing = rw (eq-eqb (length (s .book)) slotTimes (f .book)) (stays s f (s .watch) Passed (wordsIn s 0 Nothing) refl refl)
-  core-moves (Hear (Told x)) = hear-moves s f x _ refl
-  core-moves (Hear (NotTold r)) = stays s f (s .watch) (Refused r) (wordsIn s 0 (Hear (NotTold r))) refl refl
-  core-moves (Plan q) = plan-moves s f q (wordsIn s 0 (Plan q)) _ refl
-  core-moves (Own p) = own-moves p (wordsIn s 0 (Own p)) (ownAnswer (p .source) (p .latitude) (p .longitude))
-  core-moves (Choose a) = choose-moves s f a (wordsIn s 0 (Choose a)) _ refl
-  core-moves (Report t) =
-      report-moves t (wordsIn s 0 (Report t)) (reportAnswer (s .book) us (s .watch .present) (s .watch .channel .plan) t)
-  core-moves New = rw (eq-eqb (length (s .book)) slotTimes (f .book)) (new-moves slotTimes (wordsIn s 0 New))
-  core-moves Sum =
-      rw (eq-eqb (length (s .book)) slotTimes (f .book)) (stays s f (s .watch) (Summed (sum us)) (wordsIn s 0 Sum) refl refl)
+-- what is asked, with no slots that pass before
+abbrev pub restOf : Call → Call
+restOf c = record { passes = 0; bytes = c .bytes; what = c .what }
 
-pub moved : (s : Kept) (q : What) → Fine s
-    → MovedBy (outOf s (record { passes = 0; what = q }) .answer .answer) q s (afterCall s (record { passes = 0; what = q }))
-unfolding afterCall
-moved s q f =
-    let ends = ended-at-once s (f .register) (f .book) q in
-    subst (λ (o : Out Reply (List ℕ)). MovedBy (o .answer .answer) q s (stateIn o)) (sym ends) (core-moves s f q)
+stays : (s : State) → Stays s s
+stays s = record { book = refl; sources = refl; present = refl; plan = refl }
+
+module _ (s : State) (f : Fine s) (n : ℕ) (bytes : List ℕ) where
+  -- what was answered, and the state that is left; the slots that pass before are not asked for
+  abbrev Moved : What → Answered → Type 0
+  Moved q a = MovedBy (a .answer) (record { passes = n; bytes = bytes; what = q }) s (a .state)
+
+  -- by what is asked; a refusal leaves all as it was
+  done-moves : (q : What) → Moved q (done q s bytes)
+  unfolding pass hear hearTests plan own choose chooseTests report begin sum
+  done-moves Nothing = by-tests (Moved Nothing) (passTests s) (answered Passed s) (stays s, tt) (λ h. stays s)
+  done-moves Hear =
+      let r = stays s in
+      by-tests (Moved Hear) (hearTests s bytes) (hears s (tellingIn bytes)) (r, (r, (r, (r, (r, (r, (r, tt)))))))
+      (λ h. hear-moves s bytes f h)
+  done-moves (Plan p) =
+      let r = stays s in by-tests (Moved (Plan p)) (planTests s p) (answered Planned (planned s p)) (r, (r, tt)) (λ h. plan-moves s p f h)
+  done-moves (Own o) =
+      let r = stays s in
+      by-tests (Moved (Own o)) (ownTests s o) (answered Set (owning s o)) (r, (r, tt))
+      (λ h. record { book = refl; sources = refl; present = refl; plan = refl })
+  done-moves (Choose a) =
+      let r = stays s in
+      by-tests (Moved (Choose a)) (chooseTests s a) (chooses s a) (r, (r, (r, (r, (r, (r, (r, tt))))))) (λ h. choose-moves s a f h _ refl)
+  done-moves (Report t) =
+      let r = stays s in by-tests (Moved (Report t)) (reportTests s t) (reports s t) (r, (r, (r, (r, tt)))) (λ h. r)
+  done-moves New = by-tests (Moved New) (passTests s) (answered Begun (newState slotTimes records)) (stays s, tt) (λ h. refl)
+  done-moves Sum = by-tests (Moved Sum) (passTests s) _ (stays s, tt) (λ h. stays s)
+
+pub moved : (s : State) (c : Call) → Fine s → MovedBy (answerTo s (restOf c) .answer) c s (afterCall s (restOf c))
+unfolding afterCall called upto
+moved s c f = done-moves s f (c .passes) (c .bytes) (c .what)

@@ -11,15 +11,15 @@ use lib.ListN.{length}
 use Rattle.laws.specs.Tests.{pick, either}
 use Rattle.laws.specs.Loops.{upto}
 use Rattle.laws.specs.Ranges.{some}
+use Rattle.laws.proofs.Upto.{upto-keeps}
 use Rattle.laws.proofs.Ranges.{some-none, some-miss}
 use Rattle.limits.specs.Limits.{frameSlots, slotTimes}
 use Rattle.book.specs.Book.{Book, ours, holders, place, holder, putAt, freeAt, released}
 use Rattle.book.specs.Pass.{Moment, passed, passes}
 use Rattle.book.specs.Sound.{Sound}
-use Rattle.book.proofs.Soundness.{sound-pass}
+use Rattle.book.proofs.Soundness.{sound-put, sound-pass}
 use Rattle.announcing.proofs.Effect.{freedOf, put-here, put-other, frees, turns-holder}
-use Rattle.choosing.specs.Own.{World, ownAt, ownFrames}
-use Rattle.choosing.proofs.Replacing.{sound-frames}
+use Rattle.promises.proofs.Moves.{ownedIn}
 
 -- ---- slot times and places
 
@@ -108,19 +108,23 @@ pick-either true false x y = refl
 pick-either false true x y = refl
 pick-either false false x y = refl
 
-module _ (w : World) (u t present d : ℕ) (here : present ≡ u % slotTimes) (s : Sound (w .book)) (from : u ≤ t) (to : t < u + slotTimes) where
+-- they keep the tallies right
+pub sound-frames : (present d : ℕ) (b : Book) (n : ℕ) → Sound b → Sound (ownedIn present d b n)
+sound-frames present d b n s =
+    upto-keeps _ b Sound n (λ x i l. sound-put x (place present (d + frameSlots * i)) ours (omega arith) (omega arith)) s
+
+module _ (b : Book) (u t present d : ℕ) (here : present ≡ u % slotTimes) (s : Sound b) (from : u ≤ t) (to : t < u + slotTimes) where
   -- n of them, the last one in the book
   pub own-after : (n : ℕ) → d + frameSlots * n < slotTimes + frameSlots
-      → holder (ownFrames present d w n .book) (t % slotTimes)
-      ≡ pick (some (λ i. eqb t (u + (d + frameSlots * i))) n) ours (holder (w .book) (t % slotTimes))
-  unfolding upto ownAt some
+      → holder (ownedIn present d b n) (t % slotTimes)
+      ≡ pick (some (λ i. eqb t (u + (d + frameSlots * i))) n) ours (holder b (t % slotTimes))
+  unfolding upto some
   own-after zero l = refl
   own-after (suc n) l =
-      let v = ownFrames present d w n in
-      let x = holder (w .book) (t % slotTimes) in
+      let x = holder b (t % slotTimes) in
       let now = eqb t (u + (d + frameSlots * n)) in
       let before = some (λ i. eqb t (u + (d + frameSlots * i))) n in
-      put-after (v .book) u t present here (sound-frames present d w n s .size) from to ours (d + frameSlots * n) (omega arith)
+      put-after (ownedIn present d b n) u t present here (sound-frames present d b n s .size) from to ours (d + frameSlots * n) (omega arith)
       ∙ ap (λ (y : ℕ). pick now ours y) (own-after n (omega arith))
       ∙ pick-either before now ours x
 

@@ -16,11 +16,13 @@ use Rattle.candidates.specs.Slot.{isOwn, holderAt}
 use Rattle.announcing.specs.declared.rows.Row.{Row}
 use Rattle.choosing.specs.declared.Wanted.{Wanted}
 use Rattle.choosing.specs.Choosing.{windowMeant, anyOwn}
-use Rattle.answering.specs.declared.Slot.{Slot}
-use Rattle.promises.specs.Calls.{Kept, newState, afterAll, sourcesIn}
+use Rattle.register.specs.declared.Slot.{Slot}
+use Rattle.register.specs.State.{State, newState, sourcesIn}
+use Rattle.calls.specs.Calls.{planIn}
+use Rattle.promises.specs.Calls.{afterAll}
 use Rattle.promises.specs.History.{Event, pastOf, timeOf, afterEvent, holderOf}
 use Rattle.promises.specs.History.Event.{passed, heard, owned, planned}
-use Rattle.promises.specs.Windows.{planIn, OursAt, OwnInWindows}
+use Rattle.promises.specs.Windows.{OursAt, OwnInWindows}
 use Rattle.promises.proofs.Moves.{ChosenBy}
 use Rattle.promises.proofs.Stands.{Stands}
 use Rattle.promises.proofs.Grown.{always}
@@ -62,7 +64,7 @@ kept-planned p es r = record { ranged = λ l. r; keeps = keeps-none p _ _ (none-
 
 -- ---- a choice in the book is one by the events
 
-module _ (s s′ : Kept) (es : List Event) (h : Agrees s es) (a : Wanted) (c : Slot) (b : ChosenBy a c s s′) where
+module _ (s s′ : State) (es : List Event) (h : Agrees s es) (a : Wanted) (c : Slot) (b : ChosenBy a c s s′) where
   abbrev ahead : ℕ
   ahead = onward (s .watch .present % frameSlots) (first (planIn s) (a .k))
 
@@ -81,7 +83,7 @@ module _ (s s′ : Kept) (es : List Event) (h : Agrees s es) (a : Wanted) (c : S
       let at : timeOf es + (ahead + i) ≡ t = omega (arith, ahead-is, w .from) in
       let near : i < slots (planIn s) = omega (arith, ahead-is, w .to) in
       let who = holder-ahead s es h (ahead + i) (omega (arith, half-most (planIn s))) in
-      let own = own-number (sourcesIn s) _ (ap isUs who ∙ ap (λ (v : ℕ). isUs (holderOf es v)) at ∙ o) in
+      let own = own-number (sourcesIn (s .reg)) _ (ap isUs who ∙ ap (λ (v : ℕ). isUs (holderOf es v)) at ∙ o) in
       true≢false (some-hit (λ j. isOwn (holderAt (s .book) (s .watch .present) (ahead + j))) i (slots (planIn s)) near own ∙ b .free)
 
   may-choose : MayChoose (planIn s) (timeOf es) (Own es) (a .k) (c .distance)
@@ -89,7 +91,7 @@ module _ (s s′ : Kept) (es : List Event) (h : Agrees s es) (a : Wanted) (c : S
 
 -- ---- whatever happens
 
-same-plan : (s s′ : Kept) (es : List Event) → planIn s′ ≡ planIn s → OnPlan (planIn s) es → OnPlan (planIn s′) es
+same-plan : (s s′ : State) (es : List Event) → planIn s′ ≡ planIn s → OnPlan (planIn s) es → OnPlan (planIn s′) es
 same-plan s s′ es e = subst (λ (p : Plan). OnPlan p es) (sym e)
 
 -- together with the holders, by which a choice is one by the events

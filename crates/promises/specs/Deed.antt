@@ -2,18 +2,15 @@
 -- Assumes nothing.
 use Rattle.packet.specs.Promises as packet
 use Rattle.message.specs.Promises as message
-use Rattle.ship.specs.Promises as ship
-use Rattle.book.specs.Promises as book
 use Rattle.hearing.specs.Promises as hearing
 use Rattle.candidates.specs.Promises as candidates
-use Rattle.choosing.specs.Promises as choosing
-use Rattle.reporting.specs.Promises as reporting
+use Rattle.choosing.specs.ChoosePromises as choosing-call
 use Rattle.board.specs.Promises as board
 use Rattle.calls.specs.Promises as calls
 use Rattle.journal.specs.Promises as journal
 use Rattle.promises.specs.Contracts.{ByTheCode}
 use Rattle.promises.specs.History.{HoldersByEvents}
-use Rattle.promises.specs.Tallies.{TalliesAreCounts, AllMakeTheWhole}
+use Rattle.promises.specs.Tallies.{TalliesAreCounts, AllMakeTheWhole, CallKeeps, PlanLeavesNone}
 use Rattle.promises.specs.Windows.{OwnInWindows}
 use Rattle.promises.specs.Examples.{MarkedExamples}
 
@@ -23,15 +20,18 @@ pub record Refuses : Type 0 where
   pub packet-read : packet.ReadExactly
   pub message-written : message.WriteExactly
   pub message-read : message.ReadExactly
-  pub bytes-heard : hearing.BytesExactly
+  pub passed : calls.PassExactly
   pub heard : hearing.HearExactly
-  pub planned : book.PlanExactly
-  pub own : ship.OwnExactly
-  pub chosen : choosing.ChooseExactly
-  pub never-beyond : choosing.NeverBeyond
-  pub reported : reporting.ReportExactly
+  pub planned : calls.PlanExactly
+  pub own : calls.OwnExactly
+  pub chosen : choosing-call.ChooseExactly
+  pub never-beyond : choosing-call.NeverBeyond
+  pub reported : calls.ReportExactly
+  pub begun : calls.BeginExactly
+  pub summed : calls.SumExactly
   pub nothing-changed : calls.RefusedKeepsAll
   pub only-passes : calls.RefusedStillPasses
+  pub lengths-first : calls.LengthsFirst
 
 -- demand 2: packets and messages both ways, the holder of every slot time, the draw, and a log cut anywhere
 pub record Agrees : Type 0 where
@@ -40,7 +40,9 @@ pub record Agrees : Type 0 where
   pub message-back : message.ReadAfterWrite
   pub message-again : message.WriteAfterRead
   pub holders : HoldersByEvents
-  pub picked : choosing.ChosenIsCandidate
+  pub picked : choosing-call.ChosenIsCandidate
+  pub marks-in-the-book : choosing-call.MarksInTheBook
+  pub only-replaced-held-off : choosing-call.OnlyReplacedHeldOff
   pub equal-draws : candidates.EqualDraws
   pub rest-sent-back : candidates.RestSentBack
   pub none-exactly : candidates.NoneExactly
@@ -54,6 +56,8 @@ pub record Agrees : Type 0 where
 pub record Adds : Type 0 where
   pub tallies : TalliesAreCounts
   pub whole : AllMakeTheWhole
+  pub each-call : CallKeeps
+  pub none-after-a-plan : PlanLeavesNone
   pub windows : OwnInWindows
 
 -- each call has one answer, and leaves one content of everything lent

@@ -2,19 +2,20 @@
 -- Assumes nothing.
 use Prim.Native.Nat.{ℕ, _+_, _-_, _^_, _<_}
 use mathlib.Core.Path.{_≡_}
+use mathlib.Core.Bool.{false}
 use mathlib.Core.List.{List, [], _∷_}
 use lib.IntN.{negsuc}
 use lib.ListN.{length, getD}
 use Rattle.laws.specs.Ranges.{howMany}
-use Rattle.limits.specs.Limits.{records}
 use Rattle.plan.specs.declared.Plan.{Plan}
 use Rattle.plan.specs.Plan.{nominal}
 use Rattle.plan.specs.Examples.{gapsOf, figures}
 use Rattle.message.specs.declared.state.Incremental.{Incremental}
 use Rattle.message.specs.Signs.{signedOf}
 use Rattle.message.specs.State.{slotsOf, distanceOf}
-use Rattle.distance.specs.Distance.{never}
+use Rattle.ship.specs.Ship.{knownPlace}
 use Rattle.candidates.specs.declared.Window.{Window}
+use Rattle.candidates.specs.Slot.{View}
 use Rattle.candidates.specs.declared.Picked.the-variants.{At, SentBack, NoCandidate}
 use Rattle.candidates.specs.declared.SlotState.the-variants.{Free, Far}
 use Rattle.candidates.specs.Window.{candidates, picked, isAt}
@@ -63,8 +64,8 @@ example5 = (a : ℕ) (cs : List ℕ) → length cs ≡ 33 → (picked a cs 65504
 -- 6. 4 candidates: each has 16,384 draws
 abbrev pub example6 : Type 0
 example6 =
-    (slots reach : List ℕ) (v : Window) (i : ℕ) → length (candidatesIn slots reach v) ≡ 4 → Candidate slots reach v i
-    → howMany (λ d. isAt (v .first + i) (choice slots reach v d)) 65536 ≡ 16384
+    (v : View) (w : Window) (i : ℕ) → length (candidatesIn v w) ≡ 4 → Candidate v w i
+    → howMany (λ d. isAt (w .first + i) (choice v w d)) 65536 ≡ 16384
 
 -- 7. longitude field all ones: -1; high bit only: -134,217,728
 abbrev pub example7 : Type 0
@@ -89,9 +90,8 @@ example11 = candidates (worthsOf (Far 500 ∷ Free ∷ Far 900 ∷ Far 500 ∷ F
 -- 12. no free slot, own position unknown: 33
 abbrev pub example12 : Type 0
 example12 =
-    (slots reach : List ℕ) (v : Window) (d : ℕ)
-    → ((k : ℕ) → k < records → getD reach k 0 ≡ never) → ((i : ℕ) → i < v .width → stateIn slots reach v i ≡ Free → ⊥)
-    → choice slots reach v d ≡ NoCandidate
+    (v : View) (w : Window) (d : ℕ) → knownPlace (v .ship .latitude) (v .ship .longitude) ≡ false
+    → ((i : ℕ) → i < w .width → stateIn v w i ≡ Free → ⊥) → choice v w d ≡ NoCandidate
 
 abbrev pub marked : Claims
 marked =

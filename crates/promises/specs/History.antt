@@ -9,16 +9,16 @@ use Rattle.laws.specs.Tests.{pick}
 use Rattle.laws.specs.Ranges.{some}
 use Rattle.limits.specs.Limits.{frameSlots, slotTimes}
 use Rattle.book.specs.Book.{ours, place}
-use Rattle.hearing.specs.declared.Told.{Told}
-use Rattle.hearing.specs.declared.Told.the-variants.{Station as Told·Station, Refused as NotTold}
+use Rattle.hearing.specs.Hear.{tellingIn}
 use Rattle.announcing.specs.declared.rows.Row.{Row}
 use Rattle.announcing.specs.Rows.{marksTime, freesTime}
 use Rattle.announcing.specs.Announce.{announces}
-use Rattle.register.specs.declared.What.{What}
-use Rattle.register.specs.declared.What.the-variants.{Nothing, Hear, Plan, Own, Choose, Report, New, Sum}
-use Rattle.answering.specs.declared.Answer.{Answer}
-use Rattle.answering.specs.declared.Answer.the-variants.{Begun, Passed, Heard, Planned, Set, Chosen, Report as Reported, Refused, Sum as Summed}
-use Rattle.promises.specs.Calls.{Kept, Call, outOf, afterAll, sourcesIn}
+use Rattle.register.specs.declared.Answer.{Answer}
+use Rattle.register.specs.declared.Answer.the-variants.{Begun, Passed, Heard, Planned, Set, Chosen, Report as Reported, Refused, Sum as Summed}
+use Rattle.register.specs.State.{State, sourcesIn}
+use Rattle.calls.specs.declared.What.{What}
+use Rattle.calls.specs.declared.What.the-variants.{Nothing, Hear, Plan, Own, Choose, Report, New, Sum}
+use Rattle.promises.specs.Calls.{Call, answerTo, afterAll}
 
 -- ---- events
 
@@ -32,48 +32,37 @@ pub data Event : Type 0 where
   -- a plan was set, and our marks were given up
   planned : Event
 
--- what a station that was heard says, by what was asked
-abbrev pub toldIn : Told → List Event → List Event
-toldIn (Told·Station x) es = heard (x .source) (announces (x .state)) ∷ es
-toldIn (NotTold r) es = es
-
-abbrev pub heardIn : What → List Event → List Event
-heardIn Nothing es = es
-heardIn (Hear t) es = toldIn t es
-heardIn (Plan q) es = es
-heardIn (Own p) es = es
-heardIn (Choose a) es = es
-heardIn (Report t) es = es
-heardIn New es = es
-heardIn Sum es = es
+-- what the message in these bytes says
+abbrev pub heardIn : List ℕ → Event
+heardIn bytes = let x = tellingIn bytes in heard (x .source) (announces (x .state))
 
 -- the time-out of a slot that was chosen
 abbrev pub timeOutIn : What → ℕ
 timeOutIn Nothing = 0
-timeOutIn (Hear t) = 0
-timeOutIn (Plan q) = 0
-timeOutIn (Own p) = 0
+timeOutIn Hear = 0
+timeOutIn (Plan p) = 0
+timeOutIn (Own o) = 0
 timeOutIn (Choose a) = a .timeout
 timeOutIn (Report t) = 0
 timeOutIn New = 0
 timeOutIn Sum = 0
 
 -- what has happened once a call is answered, after es: nothing more where it was refused or only looks, nothing at all where the book is new
-abbrev pub pastBy : Answer → What → List Event → List Event
-pastBy Passed q es = es
-pastBy (Heard m) q es = heardIn q es
-pastBy Planned q es = planned ∷ es
-pastBy Set q es = es
-pastBy (Chosen s) q es = owned (s .distance) (timeOutIn q) ∷ es
-pastBy (Reported m) q es = es
-pastBy (Refused r) q es = es
-pastBy Begun q es = []
-pastBy (Summed n) q es = es
+abbrev pub pastBy : Answer → Call → List Event → List Event
+pastBy Passed c es = es
+pastBy (Heard m) c es = heardIn (c .bytes) ∷ es
+pastBy Planned c es = planned ∷ es
+pastBy Set c es = es
+pastBy (Chosen x) c es = owned (x .distance) (timeOutIn (c .what)) ∷ es
+pastBy (Reported m) c es = es
+pastBy (Refused r) c es = es
+pastBy Begun c es = []
+pastBy (Summed n) c es = es
 
 -- the events of a row of calls since the book was new, the last one first: by what was asked and what was answered
 unfoldable pub pastOf : List Call → List Event
 pastOf [] = []
-pastOf (c ∷ cs) = pastBy (outOf (afterAll cs) c .answer .answer) (c .what) (passed (c .passes) ∷ pastOf cs)
+pastOf (c ∷ cs) = pastBy (answerTo (afterAll cs) c .answer) c (passed (c .passes) ∷ pastOf cs)
 
 -- ---- the holder of a slot time
 
@@ -134,8 +123,8 @@ unfoldable pub whoOf : List ℕ → ℕ → Who
 whoOf sources x = pick (eqb x 0) nobody (pick (eqb x ours) us (station (getD sources (x - 1) 0)))
 
 -- who holds the slot time d ahead, in the book and the register
-abbrev pub whoIn : Kept → ℕ → Who
-whoIn s d = whoOf (sourcesIn s) (getD (s .book) (place (s .watch .present) d) 0)
+abbrev pub whoIn : State → ℕ → Who
+whoIn s d = whoOf (sourcesIn (s .reg)) (getD (s .book) (place (s .watch .present) d) 0)
 
 abbrev pub HoldersByEvents : Type 0
 HoldersByEvents = (cs : List Call) (d : ℕ) → d < slotTimes → whoIn (afterAll cs) d ≡ holderOf (pastOf cs) (timeOf (pastOf cs) + d)

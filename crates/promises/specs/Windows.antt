@@ -7,12 +7,10 @@ use Rattle.limits.specs.Limits.{slotTimes}
 use Rattle.plan.specs.declared.Plan.{Plan}
 use Rattle.plan.specs.Plan.{half, floorGap, ceilGap}
 use Rattle.plan.specs.Times.{Comes, Within, Next}
-use Rattle.promises.specs.Calls.{Kept, Call, afterAll}
+use Rattle.calls.specs.Calls.{planIn}
+use Rattle.promises.specs.Calls.{Call, afterAll}
 use Rattle.promises.specs.History.{timeOf, pastOf, whoIn}
 use Rattle.promises.specs.History.Who.{us}
-
-abbrev pub planIn : Kept → Plan
-planIn s = s .watch .channel .plan
 
 -- the slot time t, counted since the book was new, is in the book and ours
 pub record OursAt (cs : List Call) (t : ℕ) : Type 0 where

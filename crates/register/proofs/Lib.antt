@@ -1,2 +1,7 @@
-pub mod Records
-pub mod Sheet
+pub mod Holders
+pub mod Followed
+pub mod Data
+pub mod Settling
+pub mod Passing
+pub mod Owning
+pub mod Again

@@ -9,66 +9,49 @@ use lib.Dec.{leb}
 use lib.ListN.{getD}
 use Rattle.laws.proofs.Tests.{both-no}
 use Rattle.limits.specs.Limits.{frameSlots}
-use Rattle.numbers.specs.declared.Refusal.the-variants.{OtherLength, NoPlan, OutOfRange, NotOwn}
+use Rattle.numbers.specs.declared.Refusal.the-variants.{NotOwn}
 use Rattle.message.specs.declared.state.SubMessage.the-variants.{Offset, Time, Slot, Stations}
 use Rattle.plan.specs.declared.Plan.{Plan}
 use Rattle.book.specs.Book.{ours, place}
-use Rattle.book.specs.Sizes.{sized}
-use Rattle.book.specs.Planning.{planFits}
 use Rattle.reporting.specs.declared.Time.{Time as Hour}
 use Rattle.reporting.specs.declared.Reported.the-variants.{Done, Refused}
-use Rattle.reporting.specs.Report.{ownAt, timeOut, offsetOf, heardStations, subMessage, timeFits, reportTests, reportAnswer}
+use Rattle.reporting.specs.Report.{ownAt, timeOut, offsetOf, subMessage, timeFits, reported}
 
-module _ (slots tallies : List ℕ) (present : ℕ) (p : Plan) (time : Hour) where
+module _ (slots : List ℕ) (stations present : ℕ) (p : Plan) (time : Hour) where
   -- ---- the sub-message with the time-out n
 
   module _ (n : ℕ) where
-    pub say-offset : (v : ℕ) → n ≡ 0 → v ≡ offsetOf slots present p → Offset v ≡ subMessage slots tallies present p time n
+    pub say-offset : (v : ℕ) → n ≡ 0 → v ≡ offsetOf slots present p → Offset v ≡ subMessage slots stations present p time n
     unfolding subMessage
     say-offset v e f = ap Offset f ∙ sym (simp (eq-eqb n 0 e))
 
     module _ (some : n ≡ 0 → ⊥) where
-      pub say-time : n ≡ 1 → Time (record { hour = time .hour; minute = time .minute; unused = 0 }) ≡ subMessage slots tallies present p time n
+      pub say-time : n ≡ 1 → Time (record { hour = time .hour; minute = time .minute; unused = 0 }) ≡ subMessage slots stations present p time n
       unfolding subMessage
       say-time e = sym (simp (ne-eqb n 0 some, eq-eqb n 1 e))
 
       module _ (more : n ≡ 1 → ⊥) where
-        pub say-slot : n % 2 ≡ 0 → Slot (record { pairs = (n - 2) / 2; number = present % frameSlots }) ≡ subMessage slots tallies present p time n
+        pub say-slot : n % 2 ≡ 0 → Slot (record { pairs = (n - 2) / 2; number = present % frameSlots }) ≡ subMessage slots stations present p time n
         unfolding subMessage
         say-slot e = sym (simp (ne-eqb n 0 some, ne-eqb n 1 more, eq-eqb (n % 2) 0 e))
 
-        pub say-stations : (v : ℕ) → (n % 2 ≡ 0 → ⊥) → v ≡ heardStations tallies
-            → Stations (record { pairs = (n - 3) / 2; number = v }) ≡ subMessage slots tallies present p time n
+        pub say-stations : (v : ℕ) → (n % 2 ≡ 0 → ⊥) → v ≡ stations
+            → Stations (record { pairs = (n - 3) / 2; number = v }) ≡ subMessage slots stations present p time n
         unfolding subMessage
         say-stations v odd f =
             ap (λ (x : ℕ). Stations (record { pairs = (n - 3) / 2; number = x })) f
             ∙ sym (simp (ne-eqb n 0 some, ne-eqb n 1 more, ne-eqb (n % 2) 0 odd))
 
-  -- ---- the answer, by the tests
+  -- ---- the answer
 
-  pub report-20 : sized slots tallies ≡ false → Refused OtherLength ≡ reportAnswer slots tallies present p time
-  unfolding reportAnswer reportTests
-  report-20 e = rw e
+  pub report-36 : ownAt slots present 0 ≡ false → Refused NotOwn ≡ reported slots stations present p time
+  unfolding reported
+  report-36 h = rw h
 
-  module _ (e : sized slots tallies ≡ true) where
-    pub report-31 : planFits (p .rate) (p .start) ≡ false → Refused NoPlan ≡ reportAnswer slots tallies present p time
-    unfolding reportAnswer reportTests
-    report-31 f = rw (e, f)
-
-    module _ (f : planFits (p .rate) (p .start) ≡ true) where
-      pub report-30 : timeFits time ≡ false → Refused OutOfRange ≡ reportAnswer slots tallies present p time
-      unfolding reportAnswer reportTests
-      report-30 g = rw (e, f, g)
-
-      module _ (g : timeFits time ≡ true) where
-        pub report-36 : ownAt slots present 0 ≡ false → Refused NotOwn ≡ reportAnswer slots tallies present p time
-        unfolding reportAnswer reportTests
-        report-36 h = rw (e, f, g, h)
-
-        pub report-done : (n : ℕ) → ownAt slots present 0 ≡ true → n ≡ timeOut slots present
-            → Done (subMessage slots tallies present p time n) ≡ reportAnswer slots tallies present p time
-        unfolding reportAnswer reportTests
-        report-done n h k = rw (e, f, g, h, k)
+  pub report-done : (n : ℕ) → ownAt slots present 0 ≡ true → n ≡ timeOut slots present
+      → Done (subMessage slots stations present p time n) ≡ reported slots stations present p time
+  unfolding reported
+  report-done n h k = rw (h, k)
 
 -- ---- what the tests say
 

@@ -1,20 +1,14 @@
--- The loops of a report as they go: frames in a row, the first own time from a distance on, and the stations that are heard.
+-- The loops of a report as they go: frames in a row, and the first own time from a distance on.
 -- Assumes nothing.
 use mathlib.Core.Path.{_≡_, refl, sym, ap, _∙_}
 use mathlib.Core.Bool.{Bool, true, false}
-use mathlib.Core.List.{List, [], _∷_}
+use mathlib.Core.List.{List}
 use Prim.Native.Nat.{ℕ, zero, suc, _+_, _-_, _*_, _≤_, _<_}
 use native.Mathlib.Numerals.{add-one}
 use native.Mathlib.Decide.{ℕ-discrete}
 use native.Mathlib.Omega.{arith}
-use borrow.Author.Tests.{lt-ltb, le-ltb}
-use lib.Dec.{ltb}
-use lib.ListN.{length, getD, drop}
-use Rattle.laws.specs.Counting.{one}
-use Rattle.laws.proofs.Sums.{one-le}
-use Rattle.laws.proofs.Loops.{Fold, fold-more, fold-end}
 use Rattle.limits.specs.Limits.{frameSlots, mostTimeOut}
-use Rattle.reporting.specs.Report.{ownAt, inARow, timeOut, firstOwn, heardStations}
+use Rattle.reporting.specs.Report.{ownAt, inARow, timeOut, firstOwn}
 
 -- ---- frames in a row
 
@@ -135,49 +129,3 @@ module _ (slots : List ℕ) (present d n : ℕ) where
     own-later e =
         let next : suc (d + i) ≡ d + (i + 1) = omega arith in
         rw (one-time, e) (ap (λ (j : ℕ). firstOwn slots present j (n - (i + 1))) next)
-
--- ---- stations heard
-
--- a tally above 0 counts 1
-pub one-heard : (t : ℕ) → 0 < t → 1 ≡ one (ltb 0 t)
-unfolding one
-one-heard t h = rw (lt-ltb 0 t h)
-
--- a tally of 0 counts nothing
-pub none-heard : (t : ℕ) → t ≤ 0 → 0 ≡ one (ltb 0 t)
-unfolding one
-none-heard t h = rw (le-ltb 0 t h)
-
--- no more stations than records
-pub stations-most : (l : List ℕ) → heardStations l ≤ length l
-stations-most [] = omega arith
-stations-most (t ∷ l) = omega (arith, stations-most l, one-le (ltb 0 t))
-
--- n counted, l left
-unfoldable pub counting : ℕ → List ℕ → ℕ
-counting n l = n + heardStations l
-
--- none counted
-count-start : (l : List ℕ) → counting 0 l ≡ heardStations l
-unfolding counting
-count-start l = omega arith
-
--- one more tally
-count-more : (n b t : ℕ) (l : List ℕ) → b ≡ one (ltb 0 t) → counting n (t ∷ l) ≡ counting (n + b) l
-unfolding counting
-count-more n b t l e = omega (arith, e)
-
--- none left
-count-none : (n : ℕ) → counting n [] ≡ n
-unfolding counting
-count-none n = omega arith
-
--- the loop, at the head of a turn
-module _ (xs : List ℕ) (n i : ℕ) (h : Fold counting 0 xs n i) where
-  -- one more tally counted
-  pub count-on : (b : ℕ) → i < length xs → b ≡ one (ltb 0 (getD xs i 0)) → Fold counting 0 xs (n + b) (i + 1)
-  count-on b p e = fold-more h p (n + b) (count-more n b (getD xs i 0) (drop (i + 1) xs) e)
-
-  -- all counted
-  pub count-all : length xs ≤ i → n ≡ heardStations xs
-  count-all p = sym (count-none n) ∙ fold-end h p ∙ count-start xs

@@ -1,33 +1,20 @@
 -- The proofs of specs/Promises.antt.
 -- Assumes nothing.
 use mathlib.Core.Path.{_≡_, refl, sym, ap, _∙_}
-use mathlib.Core.List.{List, [], _∷_}
+use mathlib.Core.List.{List}
 use Prim.Native.Nat.{ℕ, _+_, _-_, _*_, _/_, _%_, _≤_}
 use native.Mathlib.Nat.{add-comm}
 use native.Mathlib.Decide.{ℕ-discrete}
 use native.Mathlib.Omega.{arith}
-use Rattle.laws.proofs.Ladder.{by-tests}
 use Rattle.limits.specs.Limits.{frameSlots, mostTimeOut}
 use Rattle.message.specs.State.{timeOutOf}
 use Rattle.plan.specs.declared.Plan.{Plan}
 use Rattle.plan.specs.Plan.{first, since, slots as windowSlots}
-use Rattle.reporting.specs.declared.Reported.the-variants.{Done}
-use Rattle.reporting.specs.Report.{reportedNumber, timeOut, firstOwn, offsetIn, offsetOf, subMessage, reportTests, reportAnswer}
-use Rattle.reporting.specs.Promises.{ReportOnce, ReportExactly, TimeOutSaid, FramesAreOwn, OffsetFinds, OffsetInWindow, OffsetOutside}
+use Rattle.reporting.specs.Report.{timeOut, firstOwn, offsetIn, offsetOf, subMessage}
+use Rattle.reporting.specs.Promises.{TimeOutSaid, FramesAreOwn, OffsetFinds, OffsetInWindow, OffsetOutside}
 use Rattle.reporting.proofs.Looking.{frameOwn, row-passes, row-ends, time-out-most}
 use Rattle.reporting.proofs.Offsets.{Found, found, offset-in, offset-out}
 use Rattle.reporting.proofs.Answers.{say-offset, say-time, say-slot, say-stations}
-
--- ---- one answer, each number exactly when
-
-pub report-once : ReportOnce
-report-once slots tallies present p time r r′ e f = e ∙ sym f
-
-pub report-exactly : ReportExactly
-unfolding reportAnswer reportTests
-report-exactly slots tallies present p time =
-    let d = Done (subMessage slots tallies present p time (timeOut slots present)) in
-    by-tests (20 ∷ 31 ∷ 30 ∷ 36 ∷ []) reportedNumber (reportTests slots tallies present p time) d refl tt refl
 
 -- ---- the time-out
 
@@ -39,13 +26,13 @@ odd-pairs : (n : ℕ) → 2 ≤ n → (n % 2 ≡ 0 → ⊥) → 3 + 2 * ((n - 3)
 odd-pairs n l e = omega arith
 
 pub time-out-said : TimeOutSaid
-time-out-said slots tallies present p time n = go (ℕ-discrete n 0) (ℕ-discrete n 1) (ℕ-discrete (n % 2) 0)
+time-out-said slots stations present p time n = go (ℕ-discrete n 0) (ℕ-discrete n 1) (ℕ-discrete (n % 2) 0)
   where
-    go : Dec (n ≡ 0) → Dec (n ≡ 1) → Dec (n % 2 ≡ 0) → timeOutOf (subMessage slots tallies present p time n) ≡ n
-    go (yes a) b e = sym (ap timeOutOf (say-offset slots tallies present p time n (offsetOf slots present p) a refl)) ∙ sym a
-    go (no a) (yes b) e = sym (ap timeOutOf (say-time slots tallies present p time n a b)) ∙ sym b
-    go (no a) (no b) (yes e) = sym (ap timeOutOf (say-slot slots tallies present p time n a b e)) ∙ even-pairs n (omega (arith, a, b)) e
-    go (no a) (no b) (no e) = sym (ap timeOutOf (say-stations slots tallies present p time n a b _ e refl)) ∙ odd-pairs n (omega (arith, a, b)) e
+    go : Dec (n ≡ 0) → Dec (n ≡ 1) → Dec (n % 2 ≡ 0) → timeOutOf (subMessage slots stations present p time n) ≡ n
+    go (yes a) b e = sym (ap timeOutOf (say-offset slots stations present p time n (offsetOf slots present p) a refl)) ∙ sym a
+    go (no a) (yes b) e = sym (ap timeOutOf (say-time slots stations present p time n a b)) ∙ sym b
+    go (no a) (no b) (yes e) = sym (ap timeOutOf (say-slot slots stations present p time n a b e)) ∙ even-pairs n (omega (arith, a, b)) e
+    go (no a) (no b) (no e) = sym (ap timeOutOf (say-stations slots stations present p time n a b _ e refl)) ∙ odd-pairs n (omega (arith, a, b)) e
 
 pub frames-are-own : FramesAreOwn
 unfolding timeOut

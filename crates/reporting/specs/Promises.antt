@@ -3,33 +3,19 @@
 use Prim.Native.Nat.{ℕ, _+_, _-_, _*_, _%_, _≤_, _<_}
 use mathlib.Core.Path.{_≡_}
 use mathlib.Core.Bool.{true, false}
-use mathlib.Core.List.{List, [], _∷_}
-use Rattle.laws.specs.Exactly.{Exactly}
+use mathlib.Core.List.{List}
 use Rattle.limits.specs.Limits.{frameSlots, mostTimeOut}
 use Rattle.plan.specs.declared.Plan.{Plan}
 use Rattle.plan.specs.Plan.{InRange, InWindow, first, since, slots as windowSlots}
 use Rattle.message.specs.State.{timeOutOf}
 use Rattle.reporting.specs.declared.Time.{Time}
-use Rattle.reporting.specs.declared.Reported.{Reported}
-use Rattle.reporting.specs.Report.{reportedNumber, ownAt, timeOut, offsetOf, subMessage, reportTests, reportAnswer}
-
--- no second answer meets the contract
-abbrev pub ReportOnce : Type 0
-ReportOnce =
-    (slots tallies : List ℕ) (present : ℕ) (p : Plan) (time : Time) (r r′ : Reported)
-    → r ≡ reportAnswer slots tallies present p time → r′ ≡ reportAnswer slots tallies present p time → r ≡ r′
-
--- each number is given exactly when
-abbrev pub ReportExactly : Type 0
-ReportExactly =
-    (slots tallies : List ℕ) (present : ℕ) (p : Plan) (time : Time)
-    → Exactly (20 ∷ 31 ∷ 30 ∷ 36 ∷ []) reportedNumber (reportTests slots tallies present p time) (reportAnswer slots tallies present p time)
+use Rattle.reporting.specs.Report.{ownAt, timeOut, offsetOf, subMessage}
 
 -- ---- the time-out that the sub-message has is the number of frames in a row
 
 abbrev pub TimeOutSaid : Type 0
 TimeOutSaid =
-    (slots tallies : List ℕ) (present : ℕ) (p : Plan) (time : Time) (n : ℕ) → timeOutOf (subMessage slots tallies present p time n) ≡ n
+    (slots : List ℕ) (stations present : ℕ) (p : Plan) (time : Time) (n : ℕ) → timeOutOf (subMessage slots stations present p time n) ≡ n
 
 -- so many frames are own, and the next one is not, or there are seven
 pub record FramesOwn (slots : List ℕ) (present : ℕ) : Type 0 where

@@ -5,25 +5,18 @@ use mathlib.Core.Bool.{Bool}
 use mathlib.Core.List.{List, [], _∷_}
 use lib.Dec.{eqb, leb, ltb}
 use lib.ListN.{getD}
-use Rattle.laws.specs.Tests.{pick, both, ladder}
+use Rattle.laws.specs.Tests.{pick, both}
 use Rattle.laws.specs.Counting.{one}
 use Rattle.limits.specs.Limits.{frameSlots, mostTimeOut}
-use Rattle.numbers.specs.declared.Refusal.the-variants.{OtherLength, NoPlan, OutOfRange, NotOwn}
-use Rattle.numbers.specs.Numbers.{numberOf}
+use Rattle.numbers.specs.declared.Refusal.the-variants.{NotOwn}
 use Rattle.message.specs.declared.state.SubMessage.{SubMessage}
 use Rattle.message.specs.declared.state.SubMessage.the-variants.{Offset, Time, Slot, Stations}
 use Rattle.plan.specs.declared.Plan.{Plan}
 use Rattle.plan.specs.Plan.{first, since, slots as windowSlots}
 use Rattle.book.specs.Book.{ours, place}
-use Rattle.book.specs.Sizes.{sized}
-use Rattle.book.specs.Planning.{planFits}
 use Rattle.reporting.specs.declared.Time.{Time as Hour}
 use Rattle.reporting.specs.declared.Reported.{Reported}
 use Rattle.reporting.specs.declared.Reported.the-variants.{Done, Refused}
-
-abbrev pub reportedNumber : Reported → ℕ
-reportedNumber (Done s) = 0
-reportedNumber (Refused r) = numberOf r
 
 -- the time d ahead is ours
 unfoldable pub ownAt : List ℕ → ℕ → ℕ → Bool
@@ -72,28 +65,19 @@ heardStations [] = 0
 heardStations (t ∷ l) = one (ltb 0 t) + heardStations l
 
 -- time-out 0: offset; 1: hour and minute; 2, 4, 6: now's slot number; 3, 5, 7: stations
-unfoldable pub subMessage : List ℕ → List ℕ → ℕ → Plan → Hour → ℕ → SubMessage
-subMessage slots tallies present p time n =
+unfoldable pub subMessage : List ℕ → ℕ → ℕ → Plan → Hour → ℕ → SubMessage
+subMessage slots stations present p time n =
     pick (eqb n 0) (Offset (offsetOf slots present p))
     (pick (eqb n 1) (Time (record { hour = time .hour; minute = time .minute; unused = 0 }))
     (pick (eqb (n % 2) 0) (Slot (record { pairs = (n - 2) / 2; number = present % frameSlots }))
-    (Stations (record { pairs = (n - 3) / 2; number = heardStations tallies }))))
+    (Stations (record { pairs = (n - 3) / 2; number = stations }))))
 
 -- ---- the call
 
 unfoldable pub timeFits : Hour → Bool
 timeFits time = both (leb (time .hour) 23) (leb (time .minute) 59)
 
-unfoldable pub reportTests : List ℕ → List ℕ → ℕ → Plan → Hour → List (Bool × Reported)
-reportTests slots tallies present p time =
-    (sized slots tallies, Refused OtherLength)
-    ∷ (planFits (p .rate) (p .start), Refused NoPlan)
-    ∷ (timeFits time, Refused OutOfRange)
-    ∷ (ownAt slots present 0, Refused NotOwn)
-    ∷ []
-
--- what `report` promises
-unfoldable pub reportAnswer : List ℕ → List ℕ → ℕ → Plan → Hour → Reported
-unfolding reportTests
-reportAnswer slots tallies present p time =
-    ladder (reportTests slots tallies present p time) (Done (subMessage slots tallies present p time (timeOut slots present)))
+-- what `report` promises: 36 where now is not own
+unfoldable pub reported : List ℕ → ℕ → ℕ → Plan → Hour → Reported
+reported slots stations present p time =
+    pick (ownAt slots present 0) (Done (subMessage slots stations present p time (timeOut slots present))) (Refused NotOwn)

@@ -1,5 +1,5 @@
-// The report of a slot of ours: time-out and sub-message. Promises: `report` gives the answer that specs/Report.antt defines; it only looks.
-// specs/Promises.antt has "given exactly when" for each number, and that no second answer meets the contract.
+// The report of a slot of ours: time-out and sub-message. Promises: `report` gives what specs/Report.antt defines, for every book and every plan in its range; it only
+// looks. specs/Promises.antt has what the time-out and the offset say of the book.
 pub mod look;
 
 ghost use mathlib.Core.Path.{_≡_};
@@ -7,15 +7,12 @@ ghost use Prim.Native.Nat.{_≤_};
 ghost use lib.ListN.{length};
 ghost use Rattle.limits.specs.Limits.{slotTimes, records, mostTimeOut};
 ghost use Rattle.plan.specs.Plan.{InRange};
-ghost use Rattle.reporting.specs.Report.{subMessage, reportAnswer};
+ghost use Rattle.reporting.specs.Report.{subMessage, timeFits, reported};
 use book::OWN;
 use book::place;
 use limits::FRAME;
-use limits::RECORDS;
-use limits::SLOT_TIMES;
 use look::frames_own;
 use look::next_own;
-use look::stations;
 use message::state::Clock;
 use message::state::Counted;
 use message::state::SubMessage;
@@ -37,14 +34,14 @@ pub struct Time {
 // What a report with the time-out n says.
 fn sub_message(
     book: &[u16],
-    tallies: &[u16],
+    stations: usize,
     present: usize,
     p: Plan,
     time: Time,
     n: usize,
 ) -> SubMessage
-    requires { ⌜ (length (now book) ≡ slotTimes) × (length (now tallies) ≡ records) × InRange p × (n ≤ mostTimeOut) ⌝ }
-    ensures { λ r. ⌜ r ≡ subMessage (now (book .entry)) (now (tallies .entry)) present p time n ⌝ }
+    requires { ⌜ (length (now book) ≡ slotTimes) × (stations ≤ records) × InRange p × (n ≤ mostTimeOut) ⌝ }
+    ensures { λ r. ⌜ r ≡ subMessage (now (book .entry)) stations present p time n ⌝ }
 {
     if n == 0 {
         return SubMessage::Offset(next_own(book, present, p) as u32);
@@ -64,33 +61,29 @@ fn sub_message(
     }
     SubMessage::Stations(Counted {
         pairs: ((n - 3) / 2) as u8,
-        number: stations(tallies) as u32,
+        number: stations as u32,
     })
 }
 
-// The report of the present slot: 20, 31, 30, 36.
-pub fn report(book: &[u16], tallies: &[u16], present: usize, p: Plan, time: Time) -> Reported
-    ensures { λ r. ⌜ r ≡ reportAnswer (now (book .entry)) (now (tallies .entry)) present p time ⌝ }
+// Whether hour and minute are such.
+pub fn fits(time: Time) -> bool
+    ensures { λ r. ⌜ r ≡ timeFits time ⌝ }
 {
-    if book.len() != SLOT_TIMES {
-        return Reported::Refused(Refusal::OtherLength);
-    }
-    if tallies.len() != RECORDS {
-        return Reported::Refused(Refusal::OtherLength);
-    }
-    if !p.good() {
-        return Reported::Refused(Refusal::NoPlan);
-    }
     if time.hour > 23 {
-        return Reported::Refused(Refusal::OutOfRange);
+        return false;
     }
-    if time.minute > 59 {
-        return Reported::Refused(Refusal::OutOfRange);
-    }
+    time.minute <= 59
+}
+
+// The report of the present slot, with so many stations received: 36.
+pub fn report(book: &[u16], stations: usize, present: usize, p: Plan, time: Time) -> Reported
+    requires { ⌜ (length (now book) ≡ slotTimes) × (stations ≤ records) × InRange p ⌝ }
+    ensures { λ r. ⌜ r ≡ reported (now (book .entry)) stations present p time ⌝ }
+{
     let at = place(present, 0);
     if book[at] != OWN {
         return Reported::Refused(Refusal::NotOwn);
     }
     let n = frames_own(book, present);
-    Reported::Done(sub_message(book, tallies, present, p, time, n))
+    Reported::Done(sub_message(book, stations, present, p, time, n))
 }

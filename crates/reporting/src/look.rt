@@ -1,12 +1,10 @@
-// What a report looks up in the book and the register. Promise: as specs/Report.antt says.
+// What a report looks up in the book. Promise: as specs/Report.antt says.
 ghost use mathlib.Core.Path.{_≡_};
 ghost use Prim.Native.Nat.{_+_, _≤_, _<_};
-ghost use lib.Dec.{ltb};
 ghost use lib.ListN.{length};
-ghost use Rattle.laws.specs.Counting.{one};
 ghost use Rattle.limits.specs.Limits.{slotTimes};
 ghost use Rattle.plan.specs.Plan.{InRange};
-ghost use Rattle.reporting.specs.Report.{ownAt, timeOut, firstOwn, offsetOf, heardStations};
+ghost use Rattle.reporting.specs.Report.{ownAt, timeOut, firstOwn, offsetOf};
 use book::OWN;
 use book::place;
 use limits::FRAME;
@@ -69,24 +67,4 @@ pub fn next_own(book: &[u16], present: usize, p: Plan) -> usize
             first_own(book, present, FRAME - since as usize, p.slots() as usize)
         }
     }
-}
-
-// 1 where a tally is above 0, else 0.
-fn heard_bit(tally: u16) -> usize
-    ensures { λ r. ⌜ r ≡ one (ltb 0 tally) ⌝ }
-{
-    if tally > 0 { 1 } else { 0 }
-}
-
-// How many records have a tally above 0.
-pub fn stations(tallies: &[u16]) -> usize
-    ensures { λ r. ⌜ r ≡ heardStations (now (tallies .entry)) ⌝ }
-{
-    let mut n: usize = 0;
-    let mut i: usize = 0;
-    while i < tallies.len() {
-        n += heard_bit(tallies[i]);
-        i += 1;
-    }
-    n
 }

@@ -1,4 +1,4 @@
--- Our own ship: which sources and positions there are, and the call that sets them.
+-- Our own ship and other stations: which sources and positions there are, and the call that sets our own.
 -- Assumes nothing.
 use Prim.Native.Nat.{ℕ}
 use mathlib.Core.Bool.{Bool, true, false}
@@ -9,6 +9,7 @@ use Rattle.laws.specs.Tests.{both, pick, between, ladder}
 use Rattle.numbers.specs.declared.Refusal.the-variants.{BadSource, OutOfRange}
 use Rattle.numbers.specs.Numbers.{numberOf}
 use Rattle.ship.specs.declared.Ship.{Ship}
+use Rattle.ship.specs.declared.Station.{Station}
 use Rattle.ship.specs.declared.Owned.{Owned}
 use Rattle.ship.specs.declared.Owned.the-variants.{Done, Refused}
 
@@ -29,6 +30,10 @@ knownPlace lat lon = both (leb (natAbs lat) 54000000) (leb (natAbs lon) 10800000
 -- the position that says that it is unknown: 91 degrees north, 181 degrees east
 abbrev pub unknownShip : Ship
 unknownShip = record { source = 0; latitude = pos 54600000; longitude = pos 108600000 }
+
+-- a record of a new register: all 0 and mobile
+abbrev pub blank : Station
+blank = record { source = 0; base = false; latitude = pos 0; longitude = pos 0; tally = 0; hold = 0 }
 
 unfoldable pub unknownPlace : ℤ → ℤ → Bool
 unknownPlace (pos lat) (pos lon) = both (eqb lat 54600000) (eqb lon 108600000)

@@ -1,13 +1,24 @@
-// Our own ship: what a source and a position can be, and the call that sets them. Promises: `own` gives the answer that specs/Ship.antt
-// defines. specs/Promises.antt has "given exactly when" for each number, and that no second answer meets the contract.
+// Our own ship and another station: what is kept of each, what a source and a position can be, and the call that sets our own. Promises: `own` gives the
+// answer that specs/Ship.antt defines. specs/Promises.antt has "given exactly when" for each number, and that no second answer meets the contract.
 ghost use mathlib.Core.Path.{_≡_};
-ghost use Rattle.ship.specs.Ship.{knownPlace, unknownShip, fairSource, ownPlace, ownAnswer};
+ghost use Rattle.ship.specs.Ship.{knownPlace, unknownShip, blank, fairSource, ownPlace, ownAnswer};
 use numbers::Refusal;
 
 pub struct Ship {
     pub source: u32,
     pub latitude: i32,
     pub longitude: i32,
+}
+
+// A record of the register: another station, how many slot times it holds, and for how many slots it is held off.
+#[repr(C)]
+pub struct Station {
+    pub source: u32,
+    pub base: bool,
+    pub latitude: i32,
+    pub longitude: i32,
+    pub tally: u16,
+    pub hold: u16,
 }
 
 pub enum Owned {
@@ -23,6 +34,20 @@ pub fn unknown() -> Ship
         source: 0,
         latitude: 54600000,
         longitude: 108600000,
+    }
+}
+
+// A record of a new register.
+pub fn blank() -> Station
+    ensures { λ r. ⌜ r ≡ blank ⌝ }
+{
+    Station {
+        source: 0,
+        base: false,
+        latitude: 0,
+        longitude: 0,
+        tally: 0,
+        hold: 0,
     }
 }
 

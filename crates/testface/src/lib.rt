@@ -1,97 +1,169 @@
-// Choosing behind C calls, so that it can be timed and held against the second program. The board does not have them. Promise: each call gives
-// what the core's definitions say, and `choose` leaves in everything lent what they say; a refusal leaves all of it.
+// Choosing behind a C call, so that it can be timed and held against the second program. The board does not have it. Promise: the answer packs what the public call
+// `choose` answers, and register and book are left as that leaves them (specs/Testface.antt). The functions that are lent the register are proved by hand, as
+// instances of `walks`.
 ghost use mathlib.Core.Path.{_≡_};
-ghost use Prim.Native.Nat.{_≤_};
-ghost use lib.ListN.{length};
-ghost use Rattle.laws.specs.Lists.{over};
-ghost use Rattle.distance.specs.Distance.{reachOf};
-ghost use Rattle.choosing.specs.Choosing.{listsOf};
-ghost use Rattle.testface.specs.Testface.{numbersOf, ChoosesC};
+ghost use Prim.Native.Nat.{_<_};
+ghost use lib.ListN.{length, getD};
+ghost use Rattle.limits.specs.Limits.{slotTimes};
+ghost use Rattle.walks.specs.Out.{out, Ends};
+ghost use Rattle.calls.specs.Told.{toldOf, aloneReply};
+ghost use Rattle.calls.specs.Stages.{Sized, Fit, carriedOut};
+ghost use Rattle.testface.specs.Testface.{wordAt, placeAt, watchIn, askIn, slotPacked, packed, packedOut, chosenOut};
+use book::Channel;
 use book::Counts;
-use book::Standing;
-use choosing::Choice;
-use choosing::Chosen;
+use book::Watch;
+use calls::Ask;
+use calls::choose;
+use calls::stages::carry;
+use calls::told::Case;
+use calls::told::alone;
+use calls::told::ready;
+use calls::told::told;
 use choosing::Wanted;
-use choosing::choose;
-use distance::Holder;
-use distance::reach;
-use numbers::Refusal;
+use message::signs::signed;
 use numbers::number;
 use plan::Plan;
+use register::Answer;
+use register::Reply;
+use register::Slot;
 use ship::Ship;
+use ship::Station;
 
-// The reach of a station: its distance from us where its slots may be reused.
-#[no_mangle]
-pub extern "C" fn qs_test_reach(
-    latitude: i32,
-    longitude: i32,
-    base: bool,
-    north: i32,
-    east: i32,
-    hold: u16,
-) -> u32
-    ensures { λ r. ⌜ r ≡ reachOf (record { source = 0; latitude = latitude; longitude = longitude }) (record { base = base; latitude = north; longitude = east; hold = hold }) ⌝ }
+// ---- what is asked: now, the free count, the own tally, rate and start of the plan, k, the time-out, in two bytes each, the low one first; then our latitude and
+// longitude, in four. A byte that is not there counts as 0.
+
+fn byte(bytes: &[u8], at: usize) -> u16
+    ensures { λ r. ⌜ (r ≡ getD (now (bytes .entry)) at 0) × (r < 256) ⌝ }
 {
-    let ship = Ship {
-        source: 0,
-        latitude,
-        longitude,
-    };
-    let holder = Holder {
-        base,
-        latitude: north,
-        longitude: east,
-        hold,
-    };
-    reach(ship, holder)
+    if at < bytes.len() {
+        return bytes[at] as u16;
+    }
+    0
 }
 
-// The numbers of a choice in the first places of the list.
-fn put_choice(out: &mut [usize], c: Choice)
-    requires { ⌜ 6 ≤ length (now out) ⌝ }
-    ensures { λ _. ⌜ now (out .exit) ≡ over (numbersOf c) (now (out .entry)) ⌝ }
+fn word(bytes: &[u8], at: usize) -> u16
+    requires { ⌜ at < 22 ⌝ }
+    ensures { λ r. ⌜ r ≡ wordAt (now (bytes .entry)) at ⌝ }
 {
-    let counts = c.counts;
-    out[0] = counts.free as usize;
-    out[1] = counts.own as usize;
-    out[2] = c.distance;
-    out[3] = c.slot;
-    out[4] = c.candidates;
-    out[5] = c.replaced;
+    byte(bytes, at) + 256 * byte(bytes, at + 1)
 }
 
-// Chooses; the answer's numbers go to the first six places of `out`: free count, own tally, distance, slot number, candidates, marks replaced.
+// A latitude or a longitude: all that can be known have 28 bits.
+fn position(bytes: &[u8], at: usize) -> i32
+    requires { ⌜ at < 20 ⌝ }
+    ensures { λ r. ⌜ r ≡ placeAt (now (bytes .entry)) at ⌝ }
+{
+    let low = word(bytes, at) as u32;
+    let high = word(bytes, at + 2) as u32;
+    signed(low + 65536 * (high % 4096), 28)
+}
+
+fn watch_in(bytes: &[u8]) -> Watch
+    ensures { λ r. ⌜ r ≡ watchIn (now (bytes .entry)) ⌝ }
+{
+    let present = word(bytes, 0) as usize;
+    let free = word(bytes, 2);
+    let own = word(bytes, 4);
+    let rate = word(bytes, 6);
+    let start = word(bytes, 8);
+    let latitude = position(bytes, 14);
+    let longitude = position(bytes, 18);
+    Watch {
+        present,
+        channel: Channel {
+            counts: Counts { free, own },
+            plan: Plan { rate, start },
+        },
+        ship: Ship {
+            source: 0,
+            latitude,
+            longitude,
+        },
+    }
+}
+
+fn ask_in(bytes: &[u8], draw: u16) -> Ask
+    ensures { λ r. ⌜ r ≡ askIn (now (bytes .entry)) draw ⌝ }
+{
+    let watch = watch_in(bytes);
+    let k = word(bytes, 10);
+    let timeout = word(bytes, 12);
+    choose(watch, Wanted { k, timeout, draw })
+}
+
+fn asked(n: usize, m: usize, bytes: &[u8], draw: u16) -> Case
+    ensures { λ r. ⌜ r ≡ toldOf n m (now (bytes .entry)) (askIn (now (bytes .entry)) draw) ⌝ }
+{
+    let x = ask_in(bytes, draw);
+    told(n, m, bytes, x)
+}
+
+// ---- what is answered
+
+// Distance, slot number, candidates, in 16 bits each, and marks replaced in 8; 8 bits are left for the number of a refusal.
+fn pack(s: Slot) -> u64
+    ensures { λ r. ⌜ r ≡ slotPacked s ⌝ }
+{
+    let ahead = (s.distance % 65536) as u64;
+    let slot = (s.slot % 65536) as u64;
+    let candidates = (s.candidates % 65536) as u64;
+    let replaced = (s.replaced % 256) as u64;
+    (((ahead * 65536 + slot) * 65536 + candidates) * 256 + replaced) * 256
+}
+
+fn packed(r: Reply) -> u64
+    ensures { λ n. ⌜ n ≡ packed (r .answer) ⌝ }
+{
+    let answer = r.answer;
+    match answer {
+        Answer::Chosen(s) => pack(s),
+        Answer::Refused(n) => number(n) as u64,
+        _ => 0,
+    }
+}
+
+fn packed_beside(book: &mut [u16], r: Reply) -> u64
+    requires { ⌜ length (now book) ≡ slotTimes ⌝ }
+    ensures { λ n. ⌜ (n ≡ packed (r .answer)) × (now (book .exit) ≡ now (book .entry)) ⌝ }
+{
+    packed(r)
+}
+
+fn tell_back(reg: &mut [Station], book: &mut [u16], r: Reply) -> u64
+    requires { ⌜ Sized (now reg) (now book) ⌝ }
+    ensures { λ n. ⌜ Ends (packedOut (out r (now (reg .entry)) (now (book .entry)))) n (now (reg .exit)) (now (book .exit)) ⌝ }
+{
+    packed_beside(book, r)
+}
+
+fn choose_slot(reg: &mut [Station], book: &mut [u16], c: Case) -> u64
+    requires { ⌜ Fit (now reg) (now book) c ⌝ }
+    ensures { λ n. ⌜ Ends (packedOut (carriedOut c (now (reg .entry)) (now (book .entry)))) n (now (reg .exit)) (now (book .exit)) ⌝ }
+{
+    let r = carry(reg, book, c);
+    tell_back(reg, book, r)
+}
+
+fn refused(c: Case) -> u64
+    ensures { λ n. ⌜ n ≡ packed (aloneReply c .answer) ⌝ }
+{
+    let r = alone(c);
+    packed(r)
+}
+
+// Chooses in a register and a book, for what the bytes ask and the number drawn.
 #[no_mangle]
 pub extern "C" fn qs_test_choose(
+    reg: &mut [Station],
     book: &mut [u16],
-    tallies: &mut [u16],
-    reaches: &mut [u32],
-    out: &mut [usize],
-    free: u16,
-    own: u16,
-    present: usize,
-    rate: u16,
-    start: u16,
-    k: u16,
-    timeout: u16,
+    bytes: &[u8],
     draw: u16,
-) -> u32
-    ensures { λ r. ⌜ ChoosesC (listsOf (now (book .entry)) (now (tallies .entry)) (now (reaches .entry))) (record { counts = record { free = free; own = own }; present = present }) (record { rate = rate; start = start }) (record { k = k; timeout = timeout; draw = draw }) (now (out .entry)) r (listsOf (now (book .exit)) (now (tallies .exit)) (now (reaches .exit))) (now (out .exit)) ⌝ }
+) -> u64
+    ensures { λ n. ⌜ Ends (chosenOut (now (reg .entry)) (now (book .entry)) (now (bytes .entry)) draw) n (now (reg .exit)) (now (book .exit)) ⌝ }
 {
-    if out.len() < 6 {
-        return number(Refusal::NoRoom);
+    let c = asked(reg.len(), book.len(), bytes, draw);
+    if ready(c) {
+        return choose_slot(reg, book, c);
     }
-    let s = Standing {
-        counts: Counts { free, own },
-        present,
-    };
-    let p = Plan { rate, start };
-    let a = Wanted { k, timeout, draw };
-    match choose(book, tallies, reaches, s, p, a) {
-        Chosen::Refused(r) => number(r),
-        Chosen::Done(c) => {
-            put_choice(out, c);
-            0
-        }
-    }
+    refused(c)
 }

@@ -1,25 +1,31 @@
--- `calls::call` meets its contract: an instance of `Thin.antt`. Assumes nothing.
+-- `calls::call` meets its contract: an instance of `Calling.antt` of walks. Assumes nothing.
+use mathlib.Core.Path.{sym, _∙_}
 use contract.Running.{givenOf, tables, tablesOf}
 use denote.Triple.Spec.{tripleOf}
 use denote.Triple.Table.{entered, cited}
-use Rattle.register.specs.Register.{tallyOf, wordOf, settle}
-use Rattle.answering.specs.Answering.{coreOf}
-use Rattle.calls.specs.Calls.{unsized}
-use Rattle.calls.proofs.Refusals.{call-refuses}
-use Rattle.calls.proofs.Data.{AskD, AskL, OrderD, OrderL, ReplyD, ReplyL, CoreO, CoreL}
-use Rattle.calls.proofs.Thin.{meets}
-use Rattle.calls.proofs.tallies_out as o16
-use Rattle.calls.proofs.tallies_out.Symbol as o16-def
-use Rattle.calls.proofs.tallies_out.Met as o16-thm
-use Rattle.calls.proofs.words_out as o32
-use Rattle.calls.proofs.words_out.Symbol as o32-def
-use Rattle.calls.proofs.words_out.Met as o32-thm
-use Rattle.answering.proofs.core as core
-use Rattle.answering.proofs.core.Symbol as core-def
-use Rattle.answering.proofs.core.Met as core-thm
-use Rattle.calls.proofs.settle_back as back
-use Rattle.calls.proofs.settle_back.Symbol as back-def
-use Rattle.calls.proofs.settle_back.Met as back-thm
+use Rattle.walks.specs.Out.{Ends}
+use Rattle.walks.proofs.Calling.{meets}
+use Rattle.register.specs.State.{stateOf}
+use Rattle.register.specs.Answers.{outOf}
+use Rattle.hearing.proofs.Data.{ReplyD, ReplyL}
+use Rattle.calls.specs.Calls.{called}
+use Rattle.calls.specs.Told.{toldOf, isReady, aloneReply}
+use Rattle.calls.specs.Stages.{Fit, carriedOut}
+use Rattle.calls.proofs.Data.{AskD, AskL, CaseD, CaseL}
+use Rattle.calls.proofs.Joining.{ends-at, ends-so}
+use Rattle.calls.proofs.Doing.{called-is, alone-is, told-fits}
+use Rattle.calls.proofs.told.told as told
+use Rattle.calls.proofs.told.told.Symbol as told-def
+use Rattle.calls.proofs.told.told.Met as told-thm
+use Rattle.calls.proofs.told.ready as ready
+use Rattle.calls.proofs.told.ready.Symbol as ready-def
+use Rattle.calls.proofs.told.ready.Met as ready-thm
+use Rattle.calls.proofs.stages.carry as inner
+use Rattle.calls.proofs.stages.carry.Symbol as inner-def
+use Rattle.calls.proofs.stages.carry.Met as inner-thm
+use Rattle.calls.proofs.told.alone as alone
+use Rattle.calls.proofs.told.alone.Symbol as alone-def
+use Rattle.calls.proofs.told.alone.Met as alone-thm
 use Rattle.calls.proofs.call.Key.{name as #f}
 use Rattle.calls.proofs.call as f
 use Rattle.calls.proofs.call.Statement as stated
@@ -30,13 +36,18 @@ unfolding code.routine tablesOf
 call-spec 𝓤 H 𝓜 𝓖 𝓡 =
     entered 𝓤 H (tripleOf 𝓤 H (𝓖 .A) f.signature (f.spec 𝓤 H (𝓖 .A) (𝓜 .mem) (𝓡 .run)))
     (tables 𝓤 H 𝓜 𝓡 code.env .C) (tables 𝓤 H 𝓜 𝓡 code.env .Λ) #f code.function (code.unfolded 𝓤 H 𝓜 𝓡)
-    (meets AskD AskL OrderD OrderL ReplyD ReplyL CoreO CoreL tallyOf wordOf settle coreOf unsized call-refuses
-    o16-def.name o32-def.name core-def.name back-def.name 𝓤 H (𝓖 .A) (givenOf 𝓤 H 𝓜 𝓖) (tablesOf 𝓤 H 𝓜 (tables 𝓤 H 𝓜 𝓡 code.env))
-    (cited 𝓤 H (tripleOf 𝓤 H (𝓖 .A) o16.signature (o16.spec 𝓤 H (𝓖 .A) (𝓜 .mem) (𝓡 .run))) 𝓜 𝓡 code.env
-    o16-def.name o16-def.routine code.calls-calls·tallies-out (o16-thm.met 𝓤 H 𝓜 𝓖 𝓡))
-    (cited 𝓤 H (tripleOf 𝓤 H (𝓖 .A) o32.signature (o32.spec 𝓤 H (𝓖 .A) (𝓜 .mem) (𝓡 .run))) 𝓜 𝓡 code.env
-    o32-def.name o32-def.routine code.calls-calls·words-out (o32-thm.met 𝓤 H 𝓜 𝓖 𝓡))
-    (cited 𝓤 H (tripleOf 𝓤 H (𝓖 .A) core.signature (core.spec 𝓤 H (𝓖 .A) (𝓜 .mem) (𝓡 .run))) 𝓜 𝓡 code.env
-    core-def.name core-def.routine code.calls-answering·core (core-thm.met 𝓤 H 𝓜 𝓖 𝓡))
-    (cited 𝓤 H (tripleOf 𝓤 H (𝓖 .A) back.signature (back.spec 𝓤 H (𝓖 .A) (𝓜 .mem) (𝓡 .run))) 𝓜 𝓡 code.env
-    back-def.name back-def.routine code.calls-calls·settle-back (back-thm.met 𝓤 H 𝓜 𝓖 𝓡)))
+    (meets AskD AskL CaseD CaseL ReplyD ReplyL toldOf isReady Fit (λ c ys bs r zs cs. Ends (carriedOut c ys bs) r zs cs) aloneReply
+    (λ x ds ys bs r zs cs. Ends (outOf (called (stateOf ys bs (x .watch)) (x .passes) ds (x .what))) r zs cs)
+    (λ ds ys bs x y. told-fits ys bs ds x y)
+    (λ ds ys bs x r zs cs y e lz lc. ends-at (sym (called-is ys bs ds x)) e)
+    (λ ds ys bs x n. ends-so (alone-is ys bs (toldOf _ _ ds x) n ∙ sym (called-is ys bs ds x)))
+    told-def.name ready-def.name inner-def.name alone-def.name
+    𝓤 H (𝓖 .A) (givenOf 𝓤 H 𝓜 𝓖) (tablesOf 𝓤 H 𝓜 (tables 𝓤 H 𝓜 𝓡 code.env))
+    (cited 𝓤 H (tripleOf 𝓤 H (𝓖 .A) told.signature (told.spec 𝓤 H (𝓖 .A) (𝓜 .mem) (𝓡 .run))) 𝓜 𝓡 code.env
+    told-def.name told-def.routine code.calls-calls·told·told (told-thm.met 𝓤 H 𝓜 𝓖 𝓡))
+    (cited 𝓤 H (tripleOf 𝓤 H (𝓖 .A) ready.signature (ready.spec 𝓤 H (𝓖 .A) (𝓜 .mem) (𝓡 .run))) 𝓜 𝓡 code.env
+    ready-def.name ready-def.routine code.calls-calls·told·ready (ready-thm.met 𝓤 H 𝓜 𝓖 𝓡))
+    (cited 𝓤 H (tripleOf 𝓤 H (𝓖 .A) inner.signature (inner.spec 𝓤 H (𝓖 .A) (𝓜 .mem) (𝓡 .run))) 𝓜 𝓡 code.env
+    inner-def.name inner-def.routine code.calls-calls·stages·carry (inner-thm.met 𝓤 H 𝓜 𝓖 𝓡))
+    (cited 𝓤 H (tripleOf 𝓤 H (𝓖 .A) alone.signature (alone.spec 𝓤 H (𝓖 .A) (𝓜 .mem) (𝓡 .run))) 𝓜 𝓡 code.env
+    alone-def.name alone-def.routine code.calls-calls·told·alone (alone-thm.met 𝓤 H 𝓜 𝓖 𝓡)))

@@ -1,19 +1,18 @@
-use mathlib.Core.Path.{_∙_}
-use Rattle.candidates.proofs.Four.{cut-is}
+-- `candidates::draw` meets its contract: what the first places of the list have is drawn from.
+-- Assumes nothing.
 use native.Mathlib.Omega.{arith}
 use native.Mathlib.Nat.{mul-div-le, mod-lt}
-use Rattle.candidates.specs.Choice.{candidatesIn, choice}
+use Rattle.candidates.specs.Scanning.{drawn}
 use Rattle.candidates.proofs.Listing.{chosen-none, chosen-back, chosen-small, chosen-at}
 use borrow.Author.Needs.{needs}
 use Rattle.candidates.proofs.draw.Statement.{statement}
 use Rattle.candidates.proofs.draw.Tie as tie
 
 returns : tie.Need-returns
-unfolding choice candidatesIn
+unfolding drawn
 returns c =
     let l = c .before .before .list-candidates in
-    chosen-none _ _ (omega arith) _ _ (c .before .before .before .before .before .best-of .ensures .frees) (c .before .before .before .before .cut .ensures ∙ cut-is _ _ _ (c .before .before .before .before .before .best-of .ensures)) _ _
-    (omega (arith, l .ensures .0, c .before .cs2 .given)) (l .ensures .1) _ _ (c .if1 .taken)
+    chosen-none _ _ _ _ (omega (arith, l .ensures .0, c .before .cs2 .given)) (l .ensures .1) _ _ (c .if1 .taken)
 
 mul-if2 : tie.Need-mul-if2
 mul-if2 c = omega (arith, mul-div-le 65536 (c .before .before .list-candidates .result))
@@ -21,51 +20,45 @@ mul-if2 c = omega (arith, mul-div-le 65536 (c .before .before .list-candidates .
 mul-at : tie.Need-mul-at
 mul-at c =
     let l = c .before .before .before .list-candidates in
-    let d = c .before .before .before .before .before .before .before .before .before .args .d in
+    let d = c .before .before .before .before .before .before .args .d in
     omega (arith, l .ensures .0, mod-lt d {m = l .result} (omega arith))
 
 array-read-at : tie.Need-array-read-at
 array-read-at c =
     let l = c .before .before .before .list-candidates in
-    let d = c .before .before .before .before .before .before .before .before .before .args .d in
+    let d = c .before .before .before .before .before .before .args .d in
     omega (arith, l .ensures .0, mod-lt d {m = l .result} (omega arith))
 
 cast-at : tie.Need-cast-at
 cast-at c =
     let l = c .before .before .before .list-candidates in
-    let d = c .before .before .before .before .before .before .before .before .before .args .d in
-    let s = chosen-small _ _ (omega arith) _ _ (c .before .before .before .before .before .before .best-of .ensures .frees) (c .before .before .before .before .before .cut .ensures ∙ cut-is _ _ _ (c .before .before .before .before .before .before .best-of .ensures)) _ _
-    (omega (arith, l .ensures .0, c .before .before .cs2 .given)) (l .ensures .1) 0 d (c .before .if1 .left) in
+    let d = c .before .before .before .before .before .before .args .d in
+    let s = chosen-small _ _ _ _ (omega (arith, l .ensures .0, c .before .before .cs2 .given)) (l .ensures .1) 0 d (c .before .if1 .left) in
     omega arith
 
-add-t15 : tie.Need-add-t15
-add-t15 c =
+add-t14 : tie.Need-add-t14
+add-t14 c =
     let l = c .before .before .before .before .list-candidates in
-    let d = c .before .before .before .before .before .before .before .before .before .before .args .d in
-    let s = chosen-small _ _ (omega arith) _ _ (c .before .before .before .before .before .before .before .best-of .ensures .frees) (c .before .before .before .before .before .before .cut .ensures ∙ cut-is _ _ _ (c .before .before .before .before .before .before .before .best-of .ensures)) _ _
-    (omega (arith, l .ensures .0, c .before .before .before .cs2 .given)) (l .ensures .1) 0 d (c .before .before .if1 .left) in
+    let d = c .before .before .before .before .before .before .before .args .d in
+    let s = chosen-small _ _ _ _ (omega (arith, l .ensures .0, c .before .before .before .cs2 .given)) (l .ensures .1) 0 d (c .before .before .if1 .left) in
     omega arith
 
 returns-2 : tie.Need-returns-2
-unfolding choice candidatesIn
+unfolding drawn
 returns-2 c =
     let l = c .before .before .before .before .list-candidates in
-    chosen-at _ _ (omega arith) _ _ (c .before .before .before .before .before .before .before .best-of .ensures .frees) (c .before .before .before .before .before .before .cut .ensures ∙ cut-is _ _ _ (c .before .before .before .before .before .before .before .best-of .ensures)) _ _
-    (omega (arith, l .ensures .0, c .before .before .before .cs2 .given)) (l .ensures .1) _ _ (c .before .before .if1 .left) (c .before .if2 .taken)
+    chosen-at _ _ _ _ (omega (arith, l .ensures .0, c .before .before .before .cs2 .given)) (l .ensures .1) _ _ (c .before .before .if1 .left) (c .before .if2 .taken)
 
 returns-3 : tie.Need-returns-3
-unfolding choice candidatesIn
+unfolding drawn
 returns-3 c =
     let l = c .before .before .before .list-candidates in
-    chosen-back _ _ (omega arith) _ _ (c .before .before .before .before .before .before .best-of .ensures .frees) (c .before .before .before .before .before .cut .ensures ∙ cut-is _ _ _ (c .before .before .before .before .before .before .best-of .ensures)) _ _
-    (omega (arith, l .ensures .0, c .before .before .cs2 .given)) (l .ensures .1) _ _ (c .before .if1 .left) (c .if2 .left)
+    chosen-back _ _ _ _ (omega (arith, l .ensures .0, c .before .before .cs2 .given)) (l .ensures .1) _ _ (c .before .if1 .left) (c .if2 .left)
 
 pub draw-spec : {M : Type 1} → statement M
 draw-spec =
     tie.close
     (tie.spec
-    (λ c κs. search needs)
-    (λ c κs. search needs)
     (λ c. search needs)
     (λ c κs. search needs)
     returns
@@ -75,6 +68,6 @@ draw-spec =
     mul-at
     array-read-at
     cast-at
-    add-t15
+    add-t14
     returns-2
     returns-3)

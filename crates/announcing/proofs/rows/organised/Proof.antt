@@ -22,4 +22,5 @@ organised-spec =
     (search needs)
     (search needs)
     (search needs)
+    (search needs)
     returns)

@@ -14,4 +14,4 @@ returns-3 c = slots-far (c .before .before .before .before .before .args .i) (c 
 
 pub slots-spec : {M : Type 1} → statement M
 slots-spec =
-    tie.close (tie.spec returns (search needs) (search needs) returns-2 (search needs) (search needs) returns-3)
+    tie.close (tie.spec returns (search needs) returns-2 (search needs) returns-3)

@@ -72,6 +72,7 @@ next-in-spec =
     (λ c κs. tt)
     returns
     loop-holds
+    (λ c. omega arith)
     mul-next-run
     add-next-run
     next-run-requires

@@ -13,47 +13,53 @@ returns c =
 
 returns-2 : tie.Need-returns-2
 returns-2 c =
-    let start = c .before .before .before .before .before in
-    let a = start .args in
-    let s = start .pre in
-    next-here (a .r) (a .a) (a .d) (s .0) (c .before .before .before .last-run .result) (c .before .before .before .last-run .ensures) (c .before .before .before .before .if1 .left) (c .if2 .taken) (s .3)
+    let ran = c .before .before in
+    let begun = ran .before .before .before in
+    let a = begun .before .args in
+    let s = begun .before .pre in
+    next-here (a .r) (a .a) (a .d) (s .0) (ran .last-run .result) (ran .last-run .ensures) (begun .if1 .left) (c .if2 .taken) (s .3)
 
 mul-result : tie.Need-mul-result
 mul-result c =
-    let start = c .before .before .before .before .before .before .before .before in
+    let ran = c .before .before .before in
+    let start = ran .before .before .before .before in
     let a = start .args in
-    let s = start .pre in
-    let inside = begins-inside (a .r) (a .a) (c .before .before .before .before .before .before .last-run .result) (c .before .if3 .taken) (s .2) in
+    let inside = begins-inside (a .r) (a .a) (ran .last-run .result) (c .if3 .taken) (start .pre .2) in
     omega arith
 
 add-result-2 : tie.Need-add-result-2
 add-result-2 c =
-    let start = c .before .before .before .before .before .before .before .before in
+    let ran = c .before .before .before in
+    let start = ran .before .before .before .before in
     let a = start .args in
-    let s = start .pre in
-    let inside = begins-inside (a .r) (a .a) (c .before .before .before .before .before .before .last-run .result) (c .before .if3 .taken) (s .2) in
+    let inside = begins-inside (a .r) (a .a) (ran .last-run .result) (c .if3 .taken) (start .pre .2) in
     omega arith
 
 returns-3 : tie.Need-returns-3
 returns-3 c =
-    let start = c .before .before .before .before .before .before .before .before in
-    let a = start .args in
-    let s = start .pre in
-    let inside = begins-inside (a .r) (a .a) (c .before .before .before .before .before .before .last-run .result) (c .before .if3 .taken) (s .2) in
-    next-begins (a .r) (a .a) (a .d) (s .0) (c .before .before .before .before .before .before .last-run .result) (c .before .before .before .before .before .before .last-run .ensures) (c .before .before .before .before .before .before .before .if1 .left) (c .before .before .before .if2 .left) (c .before .if3 .taken) inside
+    let ran = c .before .before .before in
+    let begun = ran .before .before .before in
+    let a = begun .before .args in
+    let s = begun .before .pre in
+    let inside = begins-inside (a .r) (a .a) (ran .last-run .result) (c .if3 .taken) (s .2) in
+    next-begins (a .r) (a .a) (a .d) (s .0) (ran .last-run .result) (ran .last-run .ensures) (begun .if1 .left) (c .before .if2 .left) (c .if3 .taken) inside
 
 returns-4 : tie.Need-returns-4
 returns-4 c =
-    let start = c .before .before .before .before .before .before .before in
-    let a = start .args in
-    let s = start .pre in
-    next-over (a .r) (a .a) (a .d) (s .0) (c .before .before .before .before .before .last-run .result) (c .before .before .before .before .before .last-run .ensures) (c .before .before .before .before .before .before .if1 .left) (c .before .before .if2 .left) (c .if3 .left) (s .3)
+    let ran = c .before .before .before in
+    let begun = ran .before .before .before in
+    let a = begun .before .args in
+    let s = begun .before .pre in
+    next-over (a .r) (a .a) (a .d) (s .0) (ran .last-run .result) (ran .last-run .ensures) (begun .if1 .left) (c .before .if2 .left) (c .if3 .left) (s .3)
 
 pub next-run-spec : {M : Type 1} → statement M
 next-run-spec =
     tie.close
     (tie.spec
     returns
+    (search needs)
+    (search needs)
+    (search needs)
     (search needs)
     (search needs)
     (search needs)

@@ -1,0 +1,376 @@
+-- What is asked of the public calls is what the code makes of it: refused by lengths, bytes and watch, or done on what is lent.
+--     done-is          what is asked is done as the tests of specs/Told.antt tell
+--     fitting-is       the lengths' test of the code is that of the state
+--     passes-keep      slots that pass keep the lengths, the plan and our own ship
+--     called-is        the whole call.        alone-is     and where neither register nor book is needed
+--     told-lengths, told-fits      what the stages need, where they are needed
+-- Assumes nothing.
+use mathlib.Core.Path.{_≡_, refl, sym, ap, ap₂, _∙_}
+use mathlib.Core.Bool.{Bool, true, false}
+use mathlib.Core.List.{List, [], _∷_, map}
+use Prim.Native.Nat.{ℕ, _-_, _%_}
+use native.Mathlib.Omega.{arith}
+use borrow.Author.Tests.{eqb-true, ltb-false}
+use lib.Dec.{eqb, ltb}
+use lib.ListN.{length, length-map, length-set}
+use Rattle.laws.specs.Tests.{pick, both, either, ladder}
+use Rattle.laws.specs.Loops.{upto}
+use Rattle.laws.proofs.Tests.{never, by-test, both-left, both-right, pick-of, pick-has}
+use Rattle.laws.proofs.Upto.{upto-keeps}
+use Rattle.limits.specs.Limits.{slotTimes, records}
+use Rattle.numbers.specs.declared.Refusal.the-variants.{OtherLength, BadSource, Repeated, OutOfRange, NoPlan}
+use Rattle.message.specs.declared.Received.{Received}
+use Rattle.message.specs.declared.Received.the-variants.{Message as Got, Refused as NotRead}
+use Rattle.message.specs.Message.{messageOf, readTests, readAnswer}
+use Rattle.ship.specs.declared.Station.{Station}
+use Rattle.ship.specs.declared.Ship.{Ship}
+use Rattle.ship.specs.declared.Owned.{Owned}
+use Rattle.ship.specs.declared.Owned.the-variants.{Done as Owns, Refused as NotOwned}
+use Rattle.ship.specs.Ship.{ownAnswer, ownTests as sourceTests}
+use Rattle.plan.specs.declared.Plan.{Plan as Plans}
+use Rattle.book.specs.declared.Watch.{Watch}
+use Rattle.book.specs.Book.{putAt, talliesOf}
+use Rattle.book.specs.Planning.{planFits}
+use Rattle.walks.specs.Out.{out}
+use Rattle.register.specs.State.{State, stateOf, bookIn, withHold, tallied, settle, passed, passes}
+use Rattle.register.specs.Answers.{Answered, no, outOf, sized}
+use Rattle.register.proofs.Settling.{tallied-length}
+use Rattle.reporting.specs.declared.Time.{Time}
+use Rattle.reporting.specs.Report.{timeFits}
+use Rattle.hearing.specs.declared.Telling.{Telling as Heard}
+use Rattle.hearing.specs.Station.{fairOther}
+use Rattle.hearing.specs.Hear.{tellingOf, tellingIn, hearTests, hear}
+use Rattle.choosing.specs.declared.Wanted.{Wanted}
+use Rattle.choosing.specs.Choosing.{askFits}
+use Rattle.choosing.specs.Choose.{chooseTests, choose}
+use Rattle.calls.specs.declared.Ask.{Ask}
+use Rattle.calls.specs.declared.What.{What}
+use Rattle.calls.specs.declared.What.the-variants.{Nothing, Hear, Plan as ToPlan, Own, Choose, Report, New, Sum}
+use Rattle.calls.specs.declared.told.Todo.{Todo}
+use Rattle.calls.specs.declared.told.Todo.the-variants as todo
+use Rattle.calls.specs.declared.told.Case.{Case}
+use Rattle.calls.specs.Calls.{pass, plan, own, report, begin, sum, done, called}
+use Rattle.calls.specs.Told.{
+  fitting,
+  fitTodo,
+  tellingTodo,
+  receivedTodo,
+  heardTodo,
+  planTodo,
+  ownedTodo,
+  ownTodo,
+  chooseTodo,
+  reportTodo,
+  todoOf,
+  toldOf,
+  needsThem,
+  isReady,
+  replyTo,
+  aloneReply,
+}
+use Rattle.calls.specs.Stages.{doneTodo, Sized, FitTodo, Fit, carriedOut}
+
+-- ---- what is asked
+
+-- what f makes of the first answer that is given
+through : {A B : Type 0} (f : A → B) (ts : List (Bool × A)) (x : A) → f (ladder ts x) ≡ ladder (map (λ (t : Bool × A). (t .0, f (t .1))) ts) (f x)
+through f [] x = refl
+through f ((true, y) ∷ ts) x = through f ts x
+through f ((false, y) ∷ ts) x = refl
+
+module _ (s : State) where
+  -- what is done, by what is left to be done
+  abbrev does : Todo → Answered
+  does t = doneTodo t s
+
+  fit-does : (t : Todo) → ladder ((sized s, no s OtherLength) ∷ []) (does t) ≡ does (fitTodo (sized s) t)
+  unfolding doneTodo fitTodo
+  fit-does t = sym (through does ((sized s, todo.Refused OtherLength) ∷ []) t)
+
+  pass-does : pass s ≡ does (fitTodo (sized s) todo.Nothing)
+  unfolding doneTodo pass
+  pass-does = fit-does todo.Nothing
+
+  begin-does : begin s ≡ does (fitTodo (sized s) todo.New)
+  unfolding doneTodo begin
+  begin-does = fit-does todo.New
+
+  sum-does : sum s ≡ does (fitTodo (sized s) todo.Sum)
+  unfolding doneTodo sum
+  sum-does = fit-does todo.Sum
+
+  plan-does : (p : Plans) → plan s p ≡ does (planTodo (sized s) p)
+  unfolding doneTodo plan planTodo
+  plan-does p =
+      sym (through does ((sized s, todo.Refused OtherLength) ∷ (planFits (p .rate) (p .start), todo.Refused OutOfRange) ∷ []) (todo.Plan p))
+
+  own-does : (o : Ship) → own s o ≡ does (ownTodo o)
+  unfolding doneTodo own ownTodo ownAnswer sourceTests
+  own-does o = sym (through (λ r. does (ownedTodo r)) (sourceTests (o .source) (o .latitude) (o .longitude)) (Owns o))
+
+  choose-does : (a : Wanted) → choose s a ≡ does (chooseTodo (sized s) (s .watch .channel .plan) a)
+  unfolding doneTodo choose chooseTests chooseTodo
+  choose-does a =
+      let p = s .watch .channel .plan in
+      sym (through does ((sized s, todo.Refused OtherLength) ∷ (planFits (p .rate) (p .start), todo.Refused NoPlan) ∷ (askFits p a, todo.Refused OutOfRange) ∷ [])
+      (todo.Choose a))
+
+  report-does : (t : Time) → report s t ≡ does (reportTodo (sized s) (s .watch .channel .plan) t)
+  unfolding doneTodo report reportTodo
+  report-does t =
+      let p = s .watch .channel .plan in
+      sym (through does ((sized s, todo.Refused OtherLength) ∷ (planFits (p .rate) (p .start), todo.Refused NoPlan) ∷ (timeFits t, todo.Refused OutOfRange) ∷ [])
+      (todo.Report t))
+
+  -- a message that could be read, and what its reading comes to
+  telling-does : (x : Heard) → ladder ((sized s, no s OtherLength) ∷ (fairOther (x .source) (s .watch .ship .source), no s BadSource) ∷ (eqb (x .repeat) 0, no s Repeated) ∷ []) (does (todo.Hear x))
+      ≡ does (tellingTodo (sized s) (s .watch .ship .source) x)
+  unfolding doneTodo tellingTodo
+  telling-does x =
+      sym (through does ((sized s, todo.Refused OtherLength) ∷ (fairOther (x .source) (s .watch .ship .source), todo.Refused BadSource) ∷ (eqb (x .repeat) 0, todo.Refused Repeated) ∷ [])
+      (todo.Hear x))
+
+  abbrev reads : Received → Answered
+  reads r = does (receivedTodo (sized s) (s .watch .ship .source) r)
+
+  hear-does : (bytes : List ℕ) → hear s bytes ≡ does (heardTodo (sized s) (s .watch .ship .source) bytes)
+  unfolding doneTodo hear hearTests heardTodo readAnswer readTests
+  hear-does bytes =
+      let ts : List (Bool × Answered) = map (λ (t : Bool × Received). (t .0, reads (t .1))) (readTests bytes) in
+      ap (ladder ts) (telling-does (tellingIn bytes)) ∙ sym (through reads (readTests bytes) (Got (messageOf bytes)))
+
+pub done-is : (q : What) (s : State) (bytes : List ℕ) → done q s bytes ≡ doneTodo (todoOf (sized s) (s .watch) bytes q) s
+done-is Nothing s bytes = pass-does s
+done-is Hear s bytes = hear-does s bytes
+done-is (ToPlan p) s bytes = plan-does s p
+done-is (Own o) s bytes = own-does s o
+done-is (Choose a) s bytes = choose-does s a
+done-is (Report t) s bytes = report-does s t
+done-is New s bytes = begin-does s
+done-is Sum s bytes = sum-does s
+
+-- ---- lengths, and slots that pass
+
+pub fitting-is : (reg : List Station) (book : List ℕ) (w : Watch) → fitting (length reg) (length book) ≡ sized (stateOf reg book w)
+unfolding fitting sized
+fitting-is reg book w = refl
+
+-- t has the lengths, the plan and the ship of s
+pub record Alike (s t : State) : Type 0 where
+  pub register : length (t .reg) ≡ length (s .reg)
+  pub size : length (t .book) ≡ length (s .book)
+  pub plan : t .watch .channel .plan ≡ s .watch .channel .plan
+  pub ship : t .watch .ship ≡ s .watch .ship
+
+passed-alike : (s : State) → Alike s (passed s)
+unfolding passed settle putAt
+passed-alike s =
+    let ts = talliesOf (putAt (bookIn s) (s .watch .present % slotTimes) 0) in
+    record {
+      register = length-map (tallied (s .reg) ts) (λ (r : Station). withHold r (r .hold - 1)) ∙ tallied-length (s .reg) ts;
+      size = length-set (s .book) _ _;
+      plan = refl;
+      ship = refl;
+    }
+
+then : (s t u : State) → Alike s t → Alike t u → Alike s u
+then s t u a b =
+    record { register = b .register ∙ a .register; size = b .size ∙ a .size; plan = b .plan ∙ a .plan; ship = b .ship ∙ a .ship }
+
+pub passes-keep : (s : State) (n : ℕ) → Alike s (passes s n)
+passes-keep s n =
+    upto-keeps (λ t i. passed t) s (Alike s) n (λ t k l a. then s t (passed t) a (passed-alike t))
+    (record { register = refl; size = refl; plan = refl; ship = refl })
+
+-- so the lengths are tested alike before and after
+pub sized-alike : (s t : State) → Alike s t → sized t ≡ sized s
+unfolding sized
+sized-alike s t a = rw (a .register, a .size)
+
+-- and what is asked comes to the same
+pub todo-alike : (s t : State) → Alike s t → (fits : Bool) (bytes : List ℕ) (q : What) → todoOf fits (t .watch) bytes q ≡ todoOf fits (s .watch) bytes q
+todo-alike s t a fits bytes Nothing = refl
+todo-alike s t a fits bytes Hear = ap (λ (o : Ship). heardTodo fits (o .source) bytes) (a .ship)
+todo-alike s t a fits bytes (ToPlan p) = refl
+todo-alike s t a fits bytes (Own o) = refl
+todo-alike s t a fits bytes (Choose x) = ap (λ (p : Plans). chooseTodo fits p x) (a .plan)
+todo-alike s t a fits bytes (Report x) = ap (λ (p : Plans). reportTodo fits p x) (a .plan)
+todo-alike s t a fits bytes New = refl
+todo-alike s t a fits bytes Sum = refl
+
+pub passes-none : (s : State) → passes s 0 ≡ s
+unfolding upto
+passes-none s = refl
+
+-- ---- the whole call
+
+-- what is done once the slots have passed
+done-after : (s : State) (n : ℕ) (bytes : List ℕ) (q : What) → done q (passes s n) bytes ≡ doneTodo (todoOf (sized s) (s .watch) bytes q) (passes s n)
+done-after s n bytes q =
+    let t = passes s n in
+    let a = passes-keep s n in
+    done-is q t bytes ∙ ap (λ (x : Todo). doneTodo x t) (ap (λ (b : Bool). todoOf b (t .watch) bytes q) (sized-alike s t a) ∙ todo-alike s t a (sized s) bytes q)
+
+module _ (reg : List Station) (book : List ℕ) where
+  -- a case that is carried out
+  abbrev carried : Case → Answered
+  carried c = doneTodo (c .todo) (passes (stateOf reg book (c .watch)) (c .passes))
+
+  none-is : (w : Watch) → no (stateOf reg book w) OtherLength ≡ doneTodo (todo.Refused OtherLength) (passes (stateOf reg book w) 0)
+  unfolding doneTodo
+  none-is w = ap (λ (t : State). no t OtherLength) (sym (passes-none (stateOf reg book w)))
+
+  module _ (bytes : List ℕ) (x : Ask) where
+    called-carried : called (stateOf reg book (x .watch)) (x .passes) bytes (x .what) ≡ carried (toldOf (length reg) (length book) bytes x)
+    unfolding called toldOf fitting sized
+    called-carried =
+        let s = stateOf reg book (x .watch) in
+        let b = either (eqb (x .passes) 0) (sized s) in
+        ap₂ (pick b) (done-after s (x .passes) bytes (x .what)) (none-is (x .watch))
+        ∙ sym (pick-of carried b
+        (record { watch = x .watch; passes = x .passes; todo = todoOf (sized s) (x .watch) bytes (x .what) })
+        (record { watch = x .watch; passes = 0; todo = todo.Refused OtherLength }))
+
+    pub called-is : outOf (called (stateOf reg book (x .watch)) (x .passes) bytes (x .what)) ≡ carriedOut (toldOf (length reg) (length book) bytes x) reg book
+    called-is = ap outOf called-carried
+
+  -- ---- where neither register nor book is needed
+
+  alone-by : (t : Todo) (w : Watch) → needsThem t ≡ false → out (replyTo t w) reg book ≡ outOf (doneTodo t (stateOf reg book w))
+  unfolding doneTodo
+  alone-by (todo.Refused r) w e = refl
+  alone-by todo.Nothing w e = never (sym e)
+  alone-by (todo.Hear x) w e = never (sym e)
+  alone-by (todo.Plan p) w e = never (sym e)
+  alone-by (todo.Own o) w e = refl
+  alone-by (todo.Choose a) w e = never (sym e)
+  alone-by (todo.Report t) w e = never (sym e)
+  alone-by todo.New w e = never (sym e)
+  alone-by todo.Sum w e = never (sym e)
+
+  pub alone-is : (c : Case) → isReady c ≡ false → out (aloneReply c) reg book ≡ carriedOut c reg book
+  unfolding isReady aloneReply
+  alone-is c e =
+      let s = stateOf reg book (c .watch) in
+      let none : c .passes ≡ 0 = omega (arith, ltb-false 0 (c .passes) (either-no-left (ltb 0 (c .passes)) (needsThem (c .todo)) e)) in
+      let there : passes s (c .passes) ≡ s = ap (passes s) none ∙ passes-none s in
+      alone-by (c .todo) (c .watch) (either-no-right (ltb 0 (c .passes)) (needsThem (c .todo)) e)
+      ∙ sym (ap (λ (t : State). outOf (doneTodo (c .todo) t)) there)
+    where
+      either-no-left : (a b : Bool) → either a b ≡ false → a ≡ false
+      either-no-left true b e = e
+      either-no-left false b e = refl
+
+      either-no-right : (a b : Bool) → either a b ≡ false → b ≡ false
+      either-no-right true b e = never (sym e)
+      either-no-right false b e = e
+
+-- ---- what the stages need
+
+-- where the lengths are other ones nothing needs them
+not-needed : (w : Watch) (bytes : List ℕ) (q : What) → needsThem (todoOf false w bytes q) ≡ false
+unfolding fitTodo heardTodo tellingTodo planTodo ownTodo chooseTodo reportTodo
+not-needed w bytes Nothing = refl
+not-needed w bytes Hear = by (readAnswer bytes)
+  where
+    by : (r : Received) → needsThem (receivedTodo false (w .ship .source) r) ≡ false
+    by (Got m) = refl
+    by (NotRead r) = refl
+not-needed w bytes (ToPlan p) = refl
+not-needed w bytes (Own o) = by (ownAnswer (o .source) (o .latitude) (o .longitude))
+  where
+    by : (r : Owned) → needsThem (ownedTodo r) ≡ false
+    by (Owns t) = refl
+    by (NotOwned r) = refl
+not-needed w bytes (Choose a) = refl
+not-needed w bytes (Report t) = refl
+not-needed w bytes New = refl
+not-needed w bytes Sum = refl
+
+-- a choice and a report are left to be done only where their tests hold
+fits-todo : (fits : Bool) (w : Watch) (bytes : List ℕ) (q : What) → FitTodo (todoOf fits w bytes q) (w .channel .plan)
+unfolding fitTodo heardTodo tellingTodo planTodo ownTodo chooseTodo reportTodo
+fits-todo fits w bytes Nothing = pick-has (λ (t : Todo). FitTodo t (w .channel .plan)) fits todo.Nothing (todo.Refused OtherLength) tt tt
+fits-todo fits w bytes Hear = by (readAnswer bytes)
+  where
+    told : (x : Heard) (a b c : Bool) → FitTodo (ladder ((a, todo.Refused OtherLength) ∷ (b, todo.Refused BadSource) ∷ (c, todo.Refused Repeated) ∷ []) (todo.Hear x)) (w .channel .plan)
+    told x false b c = tt
+    told x true false c = tt
+    told x true true false = tt
+    told x true true true = tt
+
+    by : (r : Received) → FitTodo (receivedTodo fits (w .ship .source) r) (w .channel .plan)
+    by (Got m) = told (tellingOf m) fits (fairOther (tellingOf m .source) (w .ship .source)) (eqb (tellingOf m .repeat) 0)
+    by (NotRead r) = tt
+fits-todo fits w bytes (ToPlan p) = by fits (planFits (p .rate) (p .start))
+  where
+    by : (a b : Bool) → FitTodo (ladder ((a, todo.Refused OtherLength) ∷ (b, todo.Refused OutOfRange) ∷ []) (todo.Plan p)) (w .channel .plan)
+    by false b = tt
+    by true false = tt
+    by true true = tt
+fits-todo fits w bytes (Own o) = by (ownAnswer (o .source) (o .latitude) (o .longitude))
+  where
+    by : (r : Owned) → FitTodo (ownedTodo r) (w .channel .plan)
+    by (Owns t) = tt
+    by (NotOwned r) = tt
+fits-todo fits w bytes (Choose x) = let p = w .channel .plan in by fits (planFits (p .rate) (p .start)) (askFits p x) refl refl
+  where
+    by : (a b c : Bool) → planFits (w .channel .plan .rate) (w .channel .plan .start) ≡ b → askFits (w .channel .plan) x ≡ c
+        → FitTodo (ladder ((a, todo.Refused OtherLength) ∷ (b, todo.Refused NoPlan) ∷ (c, todo.Refused OutOfRange) ∷ []) (todo.Choose x)) (w .channel .plan)
+    by false b c e f = tt
+    by true false c e f = tt
+    by true true false e f = tt
+    by true true true e f = (e, f)
+fits-todo fits w bytes (Report t) = let p = w .channel .plan in by fits (planFits (p .rate) (p .start)) (timeFits t) refl
+  where
+    by : (a b c : Bool) → planFits (w .channel .plan .rate) (w .channel .plan .start) ≡ b
+        → FitTodo (ladder ((a, todo.Refused OtherLength) ∷ (b, todo.Refused NoPlan) ∷ (c, todo.Refused OutOfRange) ∷ []) (todo.Report t)) (w .channel .plan)
+    by false b c e = tt
+    by true false c e = tt
+    by true true false e = tt
+    by true true true e = e
+fits-todo fits w bytes New = pick-has (λ (t : Todo). FitTodo t (w .channel .plan)) fits todo.New (todo.Refused OtherLength) tt tt
+fits-todo fits w bytes Sum = pick-has (λ (t : Todo). FitTodo t (w .channel .plan)) fits todo.Sum (todo.Refused OtherLength) tt tt
+
+module _ (reg : List Station) (book : List ℕ) (bytes : List ℕ) (x : Ask) where
+  -- the case, and the one of two that it is
+  abbrev case : Case
+  case = toldOf (length reg) (length book) bytes x
+
+  abbrev goes : Bool → Case
+  goes fits = record { watch = x .watch; passes = x .passes; todo = todoOf fits (x .watch) bytes (x .what) }
+
+  abbrev stops : Case
+  stops = record { watch = x .watch; passes = 0; todo = todo.Refused OtherLength }
+
+  -- with other lengths it is not ready
+  other : (z : Bool) → eqb (x .passes) 0 ≡ z → isReady (pick (either z false) (goes false) stops) ≡ false
+  unfolding isReady
+  other true e = ap₂ either (ap (ltb 0) (eqb-true (x .passes) 0 e)) (not-needed (x .watch) bytes (x .what))
+  other false e = refl
+
+  pub told-fitting : isReady case ≡ true → fitting (length reg) (length book) ≡ true
+  unfolding toldOf
+  told-fitting e =
+      by-test (fitting (length reg) (length book)) (λ y. y)
+      (λ n. never (sym (ap (λ (b : Bool). isReady (pick (either (eqb (x .passes) 0) b) (goes b) stops)) n ∙ other (eqb (x .passes) 0) refl) ∙ e))
+
+  -- both lengths, where it is ready
+  pub told-lengths : isReady case ≡ true → Sized reg book
+  unfolding fitting
+  told-lengths e =
+      let f : both (eqb (length book) slotTimes) (eqb (length reg) records) ≡ true = told-fitting e in
+      record {
+        register = eqb-true (length reg) records (both-right (eqb (length book) slotTimes) (eqb (length reg) records) f);
+        size = eqb-true (length book) slotTimes (both-left (eqb (length book) slotTimes) (eqb (length reg) records) f);
+      }
+
+  told-todo : FitTodo (case .todo) (case .watch .channel .plan)
+  unfolding toldOf
+  told-todo =
+      let fits = fitting (length reg) (length book) in
+      pick-has (λ (c : Case). FitTodo (c .todo) (c .watch .channel .plan)) (either (eqb (x .passes) 0) fits) (goes fits) stops
+      (fits-todo fits (x .watch) bytes (x .what)) tt
+
+  pub told-fits : isReady case ≡ true → Fit reg book case
+  told-fits e = record { sized = told-lengths e; fits = told-todo }

@@ -1,0 +1,295 @@
+-- What each stage needs, and that stages one after the other come to what is to be done.
+-- Assumes nothing.
+use mathlib.Core.Path.{_≡_, refl, sym, ap, subst, _∙_}
+use mathlib.Core.Bool.{Bool, true, false}
+use mathlib.Core.List.{List, [], _∷_, map}
+use Prim.Native.Nat.{ℕ, _+_, _≤_, _<_}
+use native.Mathlib.Omega.{arith}
+use lib.Dec.{ltb}
+use lib.ListN.{length, set, getD, replicate, length-set, length-map}
+use Rattle.laws.specs.Tests.{pick, both, between, ladder}
+use Rattle.laws.proofs.Tests.{never, both-left, both-right, between-is}
+use Rattle.laws.proofs.Sums.{one-le}
+use Rattle.laws.proofs.Upto.{upto-keeps}
+use Rattle.limits.specs.Limits.{frameSlots, slotTimes, records, widest, leastTimeOut, mostTimeOut}
+use Rattle.numbers.specs.declared.Refusal.the-variants.{NotOwn}
+use Rattle.ship.specs.declared.Station.{Station}
+use Rattle.ship.specs.Ship.{blank}
+use Rattle.plan.specs.declared.Plan.{Plan}
+use Rattle.plan.specs.Plan.{InRange}
+use Rattle.book.specs.declared.Watch.{Watch}
+use Rattle.book.specs.Book.{ours, bookOf, released}
+use Rattle.book.specs.Watch.{newWatch}
+use Rattle.book.proofs.Plans.{in-range}
+use Rattle.walks.specs.Out.{Out, out, Ends}
+use Rattle.register.specs.declared.Reply.{Reply}
+use Rattle.register.specs.declared.Answer.the-variants.{Planned, Begun}
+use Rattle.register.specs.State.{State, stateOf, newState, talliesIn, bookIn, withCounts, settle}
+use Rattle.register.specs.Register.{slidOne, slid}
+use Rattle.register.specs.Answers.{answered, no, outOf}
+use Rattle.register.proofs.Settling.{settle-is}
+use Rattle.register.proofs.Passing.{passes-slid}
+use Rattle.reporting.specs.Report.{ownAt, timeOut, heardStations, subMessage, reported}
+use Rattle.reporting.specs.declared.Time.{Time}
+use Rattle.reporting.specs.declared.Reported.the-variants.{Done, Refused as NotReported}
+use Rattle.hearing.specs.declared.Booking.{Booking}
+use Rattle.hearing.specs.Booking.{foundIn, fitOf, atOf, rowsOf, Noted, Booked, storedIn, freedOut, markedOut}
+use Rattle.hearing.proofs.Joined.{freed-booked}
+use Rattle.hearing.proofs.Hears.{hears-is}
+use Rattle.choosing.specs.declared.Wanted.{Wanted}
+use Rattle.choosing.specs.declared.Query.{Query}
+use Rattle.choosing.specs.declared.own.Owning.{Owning}
+use Rattle.choosing.specs.Choosing.{askFits, windowOf, pickedIn}
+use Rattle.choosing.specs.Scanning.{asked, turnsOf, scanned, judged}
+use Rattle.choosing.specs.Owning.{owningOf, Owns, ownedOut}
+use Rattle.choosing.proofs.Meaning.{near, narrow, timed}
+use Rattle.choosing.proofs.Promised.{finds-the-choice}
+use Rattle.choosing.proofs.Choosing.{run-met, chooses-is}
+use Rattle.candidates.specs.declared.rounds.Best.{Best}
+use Rattle.calls.specs.declared.told.Todo.{Todo}
+use Rattle.calls.specs.declared.told.Todo.the-variants as todo
+use Rattle.calls.specs.declared.told.Case.{Case}
+use Rattle.calls.specs.declared.stages.Sums.{Sums}
+use Rattle.calls.specs.Calls.{planned, reports}
+use Rattle.calls.specs.Stages.{doneTodo, Sized, FitTodo, Fit, rewatched, passOut, older, isHear, hearingBy, hearingOf, Sought, announcedOut, enteredOut, isChoose, Asks, queryBy, queryOf, Draws, drawnOut, isNew, clearedOut, isRest, sumsIn, Replans, RestNeeds, restBy, reportAnswer, reportedReply, doneOut, agedOut, carriedOut}
+
+-- where two functions say what they leave, both one after the other leave this
+pub ends-at : {Y : Type 0} {o p : Out Y} {r : Y} {zs : List Station} {cs : List ℕ} → o ≡ p → Ends o r zs cs → Ends p r zs cs
+ends-at {r = r} {zs = zs} {cs = cs} e n = subst (λ q. Ends q r zs cs) e n
+
+pub ends-so : {Y : Type 0} {r : Y} {zs : List Station} {cs : List ℕ} {o : Out Y} → out r zs cs ≡ o → Ends o r zs cs
+ends-so e = record { answers = λ i. e i .answer; leaves = λ i. e i .reg; writes = λ i. e i .book }
+
+-- ---- hearing
+
+pub freed-fits : (b : Booking) (ys : List Station) (bs : List ℕ) (y : Booking) (zs : List Station) (cs : List ℕ) → Booked ys bs b
+    → Ends (freedOut b ys bs) y zs cs → Booked zs cs y
+freed-fits b ys bs y zs cs n e =
+    let go = freed-booked b ys bs n in
+    subst (λ z. Booked zs cs z) (sym (e .answers))
+    (subst (λ l. Booked l cs (freedOut b ys bs .answer)) (sym (e .leaves)) (subst (λ l. Booked (freedOut b ys bs .reg) l (freedOut b ys bs .answer)) (sym (e .writes)) go))
+
+pub announced : (b : Booking) (ys : List Station) (bs : List ℕ) (y : Booking) (zs : List Station) (cs : List ℕ) (r : Reply) (zs′ : List Station) (cs′ : List ℕ)
+    → Ends (freedOut b ys bs) y zs cs → Ends (markedOut y zs cs) r zs′ cs′ → Ends (announcedOut b ys bs) r zs′ cs′
+announced b ys bs y zs cs r zs′ cs′ e f = ends-at (λ i. markedOut (e .answers i) (e .leaves i) (e .writes i)) f
+
+pub stored-fits : (b : Booking) (ys : List Station) (bs : List ℕ) → Booked ys bs b → Booked (storedIn ys b) bs b
+stored-fits b ys bs n = record { register = length-set ys _ _ ∙ n .register; size = n .size; inside = n .inside; frees = n .frees; marks = n .marks }
+
+pub sought-fits : (c : Case) (ys : List Station) (bs : List ℕ) (b : Booking) (zs : List Station) (cs : List ℕ) → Sized ys bs → Sought c ys bs b zs cs → Booked zs cs b
+sought-fits c ys bs b zs cs z s =
+    let n = s .noted in
+    record {
+      register = ap length (s .leaves) ∙ z .register;
+      size = ap length (s .writes) ∙ z .size;
+      inside = n .inside;
+      frees = n .frees;
+      marks = n .marks;
+    }
+
+hear-comes : (t : Todo) (w : Watch) (ys : List Station) (bs : List ℕ) (b : Booking) → isHear t ≡ true → length ys ≡ records
+    → (let q = hearingBy t w in let f = foundIn ys q in Noted q (fitOf q f) (atOf q f) (rowsOf q f) b)
+    → enteredOut b ys bs ≡ outOf (doneTodo t (stateOf ys bs w))
+unfolding doneTodo
+hear-comes (todo.Refused r) w ys bs b e many n = never e
+hear-comes todo.Nothing w ys bs b e many n = never e
+hear-comes (todo.Hear x) w ys bs b e many n = hears-is ys bs w x many b n
+hear-comes (todo.Plan p) w ys bs b e many n = never e
+hear-comes (todo.Own o) w ys bs b e many n = never e
+hear-comes (todo.Choose a) w ys bs b e many n = never e
+hear-comes (todo.Report t) w ys bs b e many n = never e
+hear-comes todo.New w ys bs b e many n = never e
+hear-comes todo.Sum w ys bs b e many n = never e
+
+pub heard-is : (c : Case) (ys : List Station) (bs : List ℕ) (b : Booking) (zs : List Station) (cs : List ℕ) (r : Reply) (zs′ : List Station) (cs′ : List ℕ)
+    → Sized ys bs → isHear (c .todo) ≡ true → Sought c ys bs b zs cs → Ends (enteredOut b zs cs) r zs′ cs′ → Ends (doneOut c ys bs) r zs′ cs′
+unfolding hearingOf
+heard-is c ys bs b zs cs r zs′ cs′ z e s f =
+    ends-at (ap (λ l. enteredOut b l cs) (s .leaves) ∙ ap (enteredOut b ys) (s .writes) ∙ hear-comes (c .todo) (c .watch) ys bs b e (z .register) (s .noted)) f
+
+-- ---- choosing
+
+pub timed-out : (p : Plan) (a : Wanted) → askFits p a ≡ true → a .timeout < mostTimeOut + 1
+unfolding askFits
+timed-out p a e =
+    let r = between-is leastTimeOut mostTimeOut (a .timeout) (both-right (ltb (a .k) (p .rate)) (between leastTimeOut mostTimeOut (a .timeout)) e) in
+    omega (arith, r .1)
+
+asked-draws : (bs : List ℕ) (w : Watch) (a : Wanted) → length bs ≡ slotTimes → a .timeout < mostTimeOut + 1 → Draws bs (asked bs w a)
+unfolding asked
+asked-draws bs w a size few =
+    record {
+      size = size;
+      first = near (w .present) (w .channel .plan) (a .k) (a .timeout) _ refl;
+      few = omega (arith, few, timed (w .present) (w .channel .plan) (a .k) (a .timeout) _ refl);
+      width = narrow (w .present) (w .channel .plan) (a .k) (a .timeout) _ refl;
+    }
+
+choose-draws : (t : Todo) (w : Watch) (bs : List ℕ) → isChoose t ≡ true → length bs ≡ slotTimes → FitTodo t (w .channel .plan) → Draws bs (queryBy t bs w)
+choose-draws (todo.Refused r) w bs e size f = never e
+choose-draws todo.Nothing w bs e size f = never e
+choose-draws (todo.Hear x) w bs e size f = never e
+choose-draws (todo.Plan p) w bs e size f = never e
+choose-draws (todo.Own o) w bs e size f = never e
+choose-draws (todo.Choose a) w bs e size f = asked-draws bs w a size (timed-out (w .channel .plan) a (f .1))
+choose-draws (todo.Report t) w bs e size f = never e
+choose-draws todo.New w bs e size f = never e
+choose-draws todo.Sum w bs e size f = never e
+
+pub drawn-fits : (c : Case) (ys : List Station) (bs : List ℕ) → Fit ys bs c → isChoose (c .todo) ≡ true → Draws bs (queryOf bs c)
+unfolding queryOf
+drawn-fits c ys bs n e = choose-draws (c .todo) (c .watch) bs e (n .sized .size) (n .fits)
+
+asked-watch : (bs : List ℕ) (w : Watch) (a : Wanted) → asked bs w a .watch ≡ w
+unfolding asked
+asked-watch bs w a = refl
+
+asked-window : (bs : List ℕ) (w : Watch) (a : Wanted) → asked bs w a .window ≡ windowOf w a
+unfolding asked
+asked-window bs w a = refl
+
+choose-comes : (t : Todo) (w : Watch) (ys : List Station) (bs : List ℕ) → isChoose t ≡ true → FitTodo t (w .channel .plan)
+    → (let q = queryBy t bs w in ownedOut (owningOf q (judged bs q (scanned ys bs q))) ys bs) ≡ outOf (doneTodo t (stateOf ys bs w))
+unfolding doneTodo
+choose-comes (todo.Refused r) w ys bs e f = never e
+choose-comes todo.Nothing w ys bs e f = never e
+choose-comes (todo.Hear x) w ys bs e f = never e
+choose-comes (todo.Plan p) w ys bs e f = never e
+choose-comes (todo.Own o) w ys bs e f = never e
+choose-comes (todo.Choose a) w ys bs e f =
+    let q = asked bs w a in
+    ap (λ p. ownedOut (owningOf q p) ys bs) (finds-the-choice ys bs w a (timed-out (w .channel .plan) a (f .1))) ∙ chooses-is ys bs w a q (asked-watch bs w a) (asked-window bs w a)
+choose-comes (todo.Report t) w ys bs e f = never e
+choose-comes todo.New w ys bs e f = never e
+choose-comes todo.Sum w ys bs e f = never e
+
+pub owns-fits : (c : Case) (ys : List Station) (bs : List ℕ) (o : Owning) (zs : List Station) (cs : List ℕ) → Sized ys bs → Ends (drawnOut c ys bs) o zs cs → Owns zs cs o
+owns-fits c ys bs o zs cs z e =
+    let q = queryOf bs c in
+    let met = run-met q ys bs (judged bs q (scanned ys bs q)) (z .register) (z .size) in
+    subst (λ x. Owns zs cs x) (sym (e .answers))
+    (subst (λ l. Owns l cs (drawnOut c ys bs .answer)) (sym (e .leaves)) (subst (λ l. Owns ys l (drawnOut c ys bs .answer)) (sym (e .writes)) met))
+
+pub chosen-is : (c : Case) (ys : List Station) (bs : List ℕ) (o : Owning) (zs : List Station) (cs : List ℕ) (r : Reply) (zs′ : List Station) (cs′ : List ℕ)
+    → Fit ys bs c → isChoose (c .todo) ≡ true → Ends (drawnOut c ys bs) o zs cs → Ends (ownedOut o zs cs) r zs′ cs′ → Ends (doneOut c ys bs) r zs′ cs′
+unfolding queryOf
+chosen-is c ys bs o zs cs r zs′ cs′ n e d f =
+    ends-at ((λ i. ownedOut (d .answers i) (d .leaves i) (d .writes i)) ∙ choose-comes (c .todo) (c .watch) ys bs e (n .fits)) f
+
+-- ---- a new book and register
+
+all-blank : (ys : List Station) → map (λ (s : Station). blank) ys ≡ replicate (length ys) blank
+all-blank [] = refl
+all-blank (r ∷ ys) = ap (λ (l : List Station). blank ∷ l) (all-blank ys)
+
+new-comes : (t : Todo) (w : Watch) (ys : List Station) (bs : List ℕ) → isNew t ≡ true → length ys ≡ records → length bs ≡ slotTimes
+    → clearedOut (map (λ (s : Station). blank) ys) bs ≡ outOf (doneTodo t (stateOf ys bs w))
+unfolding doneTodo newState
+new-comes (todo.Refused r) w ys bs e many size = never e
+new-comes todo.Nothing w ys bs e many size = never e
+new-comes (todo.Hear x) w ys bs e many size = never e
+new-comes (todo.Plan p) w ys bs e many size = never e
+new-comes (todo.Own o) w ys bs e many size = never e
+new-comes (todo.Choose a) w ys bs e many size = never e
+new-comes (todo.Report t) w ys bs e many size = never e
+new-comes todo.New w ys bs e many size =
+    λ i. out (record { watch = newWatch; answer = Begun }) ((all-blank ys ∙ ap (λ (n : ℕ). replicate n blank) many) i) (ap (λ (n : ℕ). replicate n 0) size i)
+new-comes todo.Sum w ys bs e many size = never e
+
+pub begun-is : (c : Case) (ys : List Station) (bs : List ℕ) (r : Reply) (zs : List Station) (cs : List ℕ) → Sized ys bs → isNew (c .todo) ≡ true
+    → Ends (clearedOut (map (λ (s : Station). blank) ys) bs) r zs cs → Ends (doneOut c ys bs) r zs cs
+begun-is c ys bs r zs cs z e f = ends-at (new-comes (c .todo) (c .watch) ys bs e (z .register) (z .size)) f
+
+-- ---- the rest
+
+pub rest-else : (t : Todo) → isHear t ≡ false → isChoose t ≡ false → isNew t ≡ false → isRest t ≡ true
+rest-else (todo.Refused r) h c n = refl
+rest-else todo.Nothing h c n = refl
+rest-else (todo.Hear x) h c n = never (sym h)
+rest-else (todo.Plan p) h c n = refl
+rest-else (todo.Own o) h c n = refl
+rest-else (todo.Choose a) h c n = never (sym c)
+rest-else (todo.Report t) h c n = refl
+rest-else todo.New h c n = never (sym n)
+rest-else todo.Sum h c n = refl
+
+-- no more stations than records
+heard-most : (l : List ℕ) → heardStations l ≤ length l
+heard-most [] = omega arith
+heard-most (t ∷ l) = omega (arith, heard-most l, one-le (ltb 0 t))
+
+pub rest-needs : (c : Case) (ys : List Station) (bs : List ℕ) → Fit ys bs c → RestNeeds bs c (sumsIn ys)
+unfolding sumsIn
+rest-needs c ys bs n = record { size = n .sized .size; few = omega (arith, heard-most (talliesIn ys), length-map ys (λ (x : Station). x .tally), n .sized .register); fits = n .fits }
+
+-- all own marks are released
+plan-comes : (w : Watch) (p : Plan) (ys : List Station) (bs : List ℕ) (r : Reply) (cs : List ℕ) → length ys ≡ records → length bs ≡ slotTimes → Replans bs w p r cs
+    → Ends (outOf (answered Planned (planned (stateOf ys bs w) p))) r ys cs
+unfolding planned
+plan-comes w p ys bs r cs many size f =
+    let s = stateOf ys bs w in
+    let tallies : length (talliesIn ys) ≡ records = length-map ys (λ (x : Station). x .tally) ∙ many in
+    let is : bookOf cs (talliesIn ys) (r .watch .channel .counts) ≡ released ours (bookIn s) slotTimes =
+    f .gives (talliesIn ys) tallies ∙ ap (released ours (bookIn s)) size in
+    let settled : settle (released ours (bookIn s) slotTimes) s ≡ stateOf ys cs (withCounts w (r .watch .channel .counts)) =
+    settle-is s (released ours (bookIn s) slotTimes) ys cs (r .watch .channel .counts) many refl is in
+    record {
+      answers = f .says ∙ (λ i. record { watch = record { present = sym settled i .watch .present; channel = record { counts = sym settled i .watch .channel .counts; plan = p }; ship = sym settled i .watch .ship }; answer = Planned });
+      leaves = λ i. sym settled i .reg;
+      writes = λ i. sym settled i .book;
+    }
+
+-- the report is told, or now is not own
+report-comes : (w : Watch) (t : Time) (ys : List Station) (bs : List ℕ)
+    → out (reportedReply bs w (sumsIn ys) t) ys bs ≡ outOf (ladder ((ownAt bs (w .present) 0, no (stateOf ys bs w) NotOwn) ∷ []) (reports (stateOf ys bs w) t))
+unfolding reportedReply reported sumsIn
+report-comes w t ys bs = go (ownAt bs (w .present) 0)
+  where
+    go : (b : Bool)
+        → out (record { watch = w; answer = reportAnswer (pick b (Done (subMessage bs (heardStations (talliesIn ys)) (w .present) (w .channel .plan) t (timeOut bs (w .present)))) (NotReported NotOwn)) }) ys bs
+        ≡ outOf (pick b (reports (stateOf ys bs w) t) (no (stateOf ys bs w) NotOwn))
+    go true = refl
+    go false = refl
+
+rest-comes : (t : Todo) (c : Case) (ys : List Station) (bs : List ℕ) (r : Reply) (cs : List ℕ) → isRest t ≡ true → length ys ≡ records → length bs ≡ slotTimes
+    → restBy t c (sumsIn ys) bs r cs → Ends (outOf (doneTodo t (stateOf ys bs (c .watch)))) r ys cs
+unfolding doneTodo sumsIn
+rest-comes (todo.Refused x) c ys bs r cs e many size f = record { answers = f .0; leaves = refl; writes = f .1 }
+rest-comes todo.Nothing c ys bs r cs e many size f = record { answers = f .0; leaves = refl; writes = f .1 }
+rest-comes (todo.Hear x) c ys bs r cs e many size f = never e
+rest-comes (todo.Plan p) c ys bs r cs e many size f = plan-comes (c .watch) p ys bs r cs many size f
+rest-comes (todo.Own o) c ys bs r cs e many size f = record { answers = f .0; leaves = refl; writes = f .1 }
+rest-comes (todo.Choose a) c ys bs r cs e many size f = never e
+rest-comes (todo.Report t) c ys bs r cs e many size f = ends-at (report-comes (c .watch) t ys bs) (record { answers = f .0; leaves = refl; writes = f .1 })
+rest-comes todo.New c ys bs r cs e many size f = never e
+rest-comes todo.Sum c ys bs r cs e many size f = record { answers = f .0; leaves = refl; writes = f .1 }
+
+pub rest-is : (c : Case) (ys : List Station) (bs : List ℕ) (r : Reply) (cs : List ℕ) → Sized ys bs → isRest (c .todo) ≡ true
+    → restBy (c .todo) c (sumsIn ys) bs r cs → Ends (doneOut c ys bs) r ys cs
+rest-is c ys bs r cs z e f = rest-comes (c .todo) c ys bs r cs e (z .register) (z .size) f
+
+-- ---- slots that pass, and the rest
+
+pub aged-fits : (c : Case) (ys : List Station) (bs : List ℕ) → Fit ys bs c → Fit (map (λ (s : Station). older s c) ys) bs c
+aged-fits c ys bs n =
+    record { sized = record { register = length-map ys (λ (s : Station). older s c) ∙ n .sized .register; size = n .sized .size }; fits = n .fits }
+
+slid-plan : (s : State) (n : ℕ) → slid s n .watch .channel .plan ≡ s .watch .channel .plan
+unfolding slidOne settle
+slid-plan s n = upto-keeps (λ (x : State) (i : ℕ). slidOne x) s (λ (x : State). x .watch .channel .plan ≡ s .watch .channel .plan) n (λ x i l e. e) refl
+
+pub later-fits : (c : Case) (ys : List Station) (bs : List ℕ) (d : Case) (zs : List Station) (cs : List ℕ) → Fit ys bs c → Ends (passOut c ys bs) d zs cs
+    → length zs ≡ length ys → length cs ≡ length bs → Fit zs cs d
+later-fits c ys bs d zs cs n e lz lc =
+    let s = slid (stateOf ys bs (c .watch)) (c .passes) in
+    record {
+      sized = record { register = lz ∙ n .sized .register; size = lc ∙ n .sized .size };
+      fits = subst (λ (x : Case). FitTodo (x .todo) (x .watch .channel .plan)) (sym (e .answers))
+          (subst (FitTodo (c .todo)) (sym (slid-plan (stateOf ys bs (c .watch)) (c .passes))) (n .fits));
+    }
+
+pub carried-is : (c : Case) (ys : List Station) (bs : List ℕ) (d : Case) (zs : List Station) (cs : List ℕ) (r : Reply) (zs′ : List Station) (cs′ : List ℕ)
+    → Ends (passOut c ys bs) d zs cs → Ends (agedOut d zs cs) r zs′ cs′ → Ends (carriedOut c ys bs) r zs′ cs′
+carried-is c ys bs d zs cs r zs′ cs′ e f =
+    ends-at ((λ i. agedOut (e .answers i) (e .leaves i) (e .writes i))
+    ∙ ap (λ (s : State). outOf (doneTodo (c .todo) s)) (sym (passes-slid (stateOf ys bs (c .watch)) (c .passes)))) f

@@ -1,0 +1,17 @@
+-- `calls::stages::is_choose` meets its contract: a slot is chosen, or not.
+-- Assumes nothing.
+use borrow.Author.Needs.{needs}
+use Rattle.calls.proofs.Covered.{not-choose}
+use Rattle.calls.proofs.stages.is_choose.Statement.{statement}
+use Rattle.calls.proofs.stages.is_choose.Tie as tie
+
+returns-2 : tie.Need-returns-2
+returns-2 c = not-choose (c .before .args .c .todo) (c .match .keys2)
+
+pub is-choose-spec : {M : Type 1} → statement M
+is-choose-spec =
+    tie.close
+    (tie.spec
+    (λ c. search needs)
+    (λ c. search needs)
+    returns-2)

@@ -1,0 +1,285 @@
+-- A call on a register and a book that have their lengths, stage by stage.
+-- Assumes nothing.
+use Prim.Native.Nat.{ℕ, _+_, _-_, _*_, _%_, _≤_, _<_}
+use mathlib.Core.Path.{_≡_}
+use mathlib.Core.Bool.{Bool, true, false}
+use mathlib.Core.List.{List, [], _∷_, map}
+use lib.Dec.{ltb}
+use lib.ListN.{length, replicate}
+use Rattle.laws.specs.Tests.{pick, ladder}
+use Rattle.laws.specs.Counting.{one, sum}
+use Rattle.limits.specs.Limits.{frameSlots, slotTimes, records, widest, mostTimeOut}
+use Rattle.numbers.specs.declared.Refusal.the-variants.{NotOwn}
+use Rattle.message.specs.declared.Message.the-variants.{Other}
+use Rattle.ship.specs.declared.Station.{Station}
+use Rattle.ship.specs.Ship.{blank}
+use Rattle.plan.specs.declared.Plan.{Plan}
+use Rattle.plan.specs.Plan.{InRange}
+use Rattle.book.specs.declared.Watch.{Watch}
+use Rattle.book.specs.Book.{ours, putAt, released, Puts, Gives}
+use Rattle.book.specs.Planning.{planFits}
+use Rattle.book.specs.Watch.{newWatch}
+use Rattle.walks.specs.Out.{Out, out, Ends}
+use Rattle.register.specs.declared.Turn.{Turn}
+use Rattle.register.specs.declared.Reply.{Reply}
+use Rattle.register.specs.declared.Answer.{Answer}
+use Rattle.register.specs.declared.Answer.the-variants.{Passed, Planned, Set, Report as Reported, Refused, Begun, Sum as Summed}
+use Rattle.register.specs.State.{State, stateOf, newState, talliesIn, withHold, aged, passes}
+use Rattle.register.specs.Register.{slid}
+use Rattle.register.specs.Answers.{Answered, answered, no, outOf}
+use Rattle.reporting.specs.declared.Time.{Time}
+use Rattle.reporting.specs.declared.Reported.{Reported as Report}
+use Rattle.reporting.specs.declared.Reported.the-variants.{Done, Refused as NotReported}
+use Rattle.reporting.specs.Report.{ownAt, heardStations, reported}
+use Rattle.hearing.specs.declared.Hearing.{Hearing}
+use Rattle.hearing.specs.declared.Booking.{Booking}
+use Rattle.hearing.specs.Hear.{tellingOf, bookTests, hears}
+use Rattle.hearing.specs.Booking.{foundIn, fitOf, atOf, rowsOf, Noted, storedIn, freedOut, markedOut}
+use Rattle.choosing.specs.declared.Query.{Query}
+use Rattle.choosing.specs.declared.own.Owning.{Owning}
+use Rattle.choosing.specs.Choosing.{askFits}
+use Rattle.choosing.specs.Scanning.{asked, scanned, judged}
+use Rattle.choosing.specs.Choose.{drawTests, chooses}
+use Rattle.choosing.specs.Owning.{owningOf}
+use Rattle.calls.specs.declared.told.Todo.{Todo}
+use Rattle.calls.specs.declared.told.Todo.the-variants as todo
+use Rattle.calls.specs.declared.told.Case.{Case}
+use Rattle.calls.specs.declared.stages.Sums.{Sums}
+use Rattle.calls.specs.Calls.{planned, owning, reports}
+
+-- ---- what is left to be done, on a state whose lengths are right
+
+unfoldable pub doneTodo : Todo → State → Answered
+doneTodo (todo.Refused r) s = no s r
+doneTodo todo.Nothing s = answered Passed s
+doneTodo (todo.Hear x) s = ladder (bookTests s x) (hears s x)
+doneTodo (todo.Plan p) s = answered Planned (planned s p)
+doneTodo (todo.Own o) s = answered Set (owning s o)
+doneTodo (todo.Choose a) s = ladder (drawTests s a) (chooses s a)
+doneTodo (todo.Report t) s = ladder ((ownAt (s .book) (s .watch .present) 0, no s NotOwn) ∷ []) (reports s t)
+doneTodo todo.New s = answered Begun (newState slotTimes records)
+doneTodo todo.Sum s = answered (Summed (sum (talliesIn (s .reg)))) s
+
+-- ---- what the stages need
+
+pub record Sized (reg : List Station) (book : List ℕ) : Type 0 where
+  pub register : length reg ≡ records
+  pub size : length book ≡ slotTimes
+
+-- a choice and a report have a plan, and a choice asks for one of its windows
+abbrev pub FitTodo : Todo → Plan → Type 0
+FitTodo (todo.Refused r) p = Unit {0}
+FitTodo todo.Nothing p = Unit {0}
+FitTodo (todo.Hear x) p = Unit {0}
+FitTodo (todo.Plan q) p = Unit {0}
+FitTodo (todo.Own o) p = Unit {0}
+FitTodo (todo.Choose a) p = (planFits (p .rate) (p .start) ≡ true) × (askFits p a ≡ true)
+FitTodo (todo.Report t) p = planFits (p .rate) (p .start) ≡ true
+FitTodo todo.New p = Unit {0}
+FitTodo todo.Sum p = Unit {0}
+
+pub record Fit (reg : List Station) (book : List ℕ) (c : Case) : Type 0 where
+  pub sized : Sized reg book
+  pub fits : FitTodo (c .todo) (c .watch .channel .plan)
+
+-- ---- slots that pass
+
+abbrev pub started : Case → Turn
+started c =
+    record {
+      handing = record { counts = c .watch .channel .counts; old = 0; new = 0 };
+      at = c .watch .present;
+      left = c .passes;
+      marks = 0;
+    }
+
+pub record PassesOne (book : List ℕ) (t r : Turn) (book′ : List ℕ) : Type 0 where
+  pub puts : Puts (λ b. putAt b (t .at % slotTimes) 0) book (t .handing .counts) (r .handing) book′
+  pub nobody : r .handing .new ≡ 0
+  pub next : r .at ≡ (t .at % slotTimes + 1) % slotTimes
+  pub less : r .left + 1 ≡ t .left
+
+abbrev pub rewatched : Case → Watch → Case
+rewatched c w = record { watch = w; passes = c .passes; todo = c .todo }
+
+abbrev pub recased : Case → Turn → Case
+recased c t =
+    rewatched c
+    (record { present = t .at; channel = record { counts = t .handing .counts; plan = c .watch .channel .plan }; ship = c .watch .ship })
+
+abbrev pub passOut : Case → List Station → List ℕ → Out Case
+passOut c reg book = let s = slid (stateOf reg book (c .watch)) (c .passes) in out (rewatched c (s .watch)) (s .reg) (s .book)
+
+abbrev pub older : Station → Case → Station
+older r c = withHold r (r .hold - c .passes)
+
+-- ---- hearing
+
+abbrev pub isHear : Todo → Bool
+isHear (todo.Refused r) = false
+isHear todo.Nothing = false
+isHear (todo.Hear x) = true
+isHear (todo.Plan p) = false
+isHear (todo.Own o) = false
+isHear (todo.Choose a) = false
+isHear (todo.Report t) = false
+isHear todo.New = false
+isHear todo.Sum = false
+
+abbrev pub hearingBy : Todo → Watch → Hearing
+hearingBy (todo.Refused r) w = record { watch = w; telling = tellingOf Other }
+hearingBy todo.Nothing w = record { watch = w; telling = tellingOf Other }
+hearingBy (todo.Hear x) w = record { watch = w; telling = x }
+hearingBy (todo.Plan p) w = record { watch = w; telling = tellingOf Other }
+hearingBy (todo.Own o) w = record { watch = w; telling = tellingOf Other }
+hearingBy (todo.Choose a) w = record { watch = w; telling = tellingOf Other }
+hearingBy (todo.Report t) w = record { watch = w; telling = tellingOf Other }
+hearingBy todo.New w = record { watch = w; telling = tellingOf Other }
+hearingBy todo.Sum w = record { watch = w; telling = tellingOf Other }
+
+unfoldable pub hearingOf : Case → Hearing
+hearingOf c = hearingBy (c .todo) (c .watch)
+
+pub record Sought (c : Case) (reg : List Station) (book : List ℕ) (b : Booking) (reg′ : List Station) (book′ : List ℕ) : Type 0 where
+  pub noted : let q = hearingOf c in let f = foundIn reg q in Noted q (fitOf q f) (atOf q f) (rowsOf q f) b
+  pub leaves : reg′ ≡ reg
+  pub writes : book′ ≡ book
+
+abbrev pub announcedOut : Booking → List Station → List ℕ → Out Reply
+announcedOut b reg book = let o = freedOut b reg book in markedOut (o .answer) (o .reg) (o .book)
+
+abbrev pub enteredOut : Booking → List Station → List ℕ → Out Reply
+enteredOut b reg book = announcedOut b (storedIn reg b) book
+
+-- ---- choosing
+
+abbrev pub isChoose : Todo → Bool
+isChoose (todo.Refused r) = false
+isChoose todo.Nothing = false
+isChoose (todo.Hear x) = false
+isChoose (todo.Plan p) = false
+isChoose (todo.Own o) = false
+isChoose (todo.Choose a) = true
+isChoose (todo.Report t) = false
+isChoose todo.New = false
+isChoose todo.Sum = false
+
+-- what the query of a case needs
+pub record Asks (book : List ℕ) (c : Case) : Type 0 where
+  pub size : length book ≡ slotTimes
+  pub fits : FitTodo (c .todo) (c .watch .channel .plan)
+
+abbrev pub noQuery : Watch → Query
+noQuery w = record { watch = w; window = record { present = 0; first = 0; width = 0; timeout = 0 }; draw = 0; taken = true; free = 0 }
+
+abbrev pub queryBy : Todo → List ℕ → Watch → Query
+queryBy (todo.Refused r) book w = noQuery w
+queryBy todo.Nothing book w = noQuery w
+queryBy (todo.Hear x) book w = noQuery w
+queryBy (todo.Plan p) book w = noQuery w
+queryBy (todo.Own o) book w = noQuery w
+queryBy (todo.Choose a) book w = asked book w a
+queryBy (todo.Report t) book w = noQuery w
+queryBy todo.New book w = noQuery w
+queryBy todo.Sum book w = noQuery w
+
+unfoldable pub queryOf : List ℕ → Case → Query
+queryOf book c = queryBy (c .todo) book (c .watch)
+
+-- what the draw needs
+pub record Draws (book : List ℕ) (q : Query) : Type 0 where
+  pub size : length book ≡ slotTimes
+  pub first : q .window .first ≤ frameSlots
+  pub few : q .window .timeout < mostTimeOut + 1
+  pub width : q .window .width ≤ widest
+
+abbrev pub drawnOut : Case → List Station → List ℕ → Out Owning
+drawnOut c reg book = let q = queryOf book c in out (owningOf q (judged book q (scanned reg book q))) reg book
+
+-- ---- a new book and register
+
+abbrev pub isNew : Todo → Bool
+isNew (todo.Refused r) = false
+isNew todo.Nothing = false
+isNew (todo.Hear x) = false
+isNew (todo.Plan p) = false
+isNew (todo.Own o) = false
+isNew (todo.Choose a) = false
+isNew (todo.Report t) = false
+isNew todo.New = true
+isNew todo.Sum = false
+
+abbrev pub clearedOut : List Station → List ℕ → Out Reply
+clearedOut reg book = out (record { watch = newWatch; answer = Begun }) reg (replicate (length book) 0)
+
+-- ---- the rest
+
+abbrev pub isRest : Todo → Bool
+isRest (todo.Refused r) = true
+isRest todo.Nothing = true
+isRest (todo.Hear x) = false
+isRest (todo.Plan p) = true
+isRest (todo.Own o) = true
+isRest (todo.Choose a) = false
+isRest (todo.Report t) = true
+isRest todo.New = false
+isRest todo.Sum = true
+
+abbrev pub noSums : Sums
+noSums = record { stations = 0; total = 0 }
+
+-- after i records
+pub record SumFits (n : Sums) (i : ℕ) : Type 0 where
+  pub place : i < records
+  pub few : n .stations ≤ i
+  pub small : n .total ≤ 65535 * i
+
+unfoldable pub sumWith : Sums → Station → Sums
+sumWith n r = record { stations = n .stations + one (ltb 0 (r .tally)); total = n .total + r .tally }
+
+unfoldable pub sumsIn : List Station → Sums
+sumsIn reg = record { stations = heardStations (talliesIn reg); total = sum (talliesIn reg) }
+
+pub record Replans (book : List ℕ) (w : Watch) (p : Plan) (r : Reply) (book′ : List ℕ) : Type 0 where
+  pub gives : Gives (λ b. released ours b (length book)) book (w .channel .counts) (r .watch .channel .counts) book′
+  pub says : r ≡ record { watch = record { present = w .present; channel = record { counts = r .watch .channel .counts; plan = p }; ship = w .ship }; answer = Planned }
+
+abbrev pub reportAnswer : Report → Answer
+reportAnswer (Done m) = Reported m
+reportAnswer (NotReported r) = Refused r
+
+unfoldable pub reportedReply : List ℕ → Watch → Sums → Time → Reply
+reportedReply book w n t =
+    record { watch = w; answer = reportAnswer (reported book (n .stations) (w .present) (w .channel .plan) t) }
+
+pub record RestNeeds (book : List ℕ) (c : Case) (n : Sums) : Type 0 where
+  pub size : length book ≡ slotTimes
+  pub few : n .stations ≤ records
+  pub fits : FitTodo (c .todo) (c .watch .channel .plan)
+
+-- the reply, and a book that stays
+abbrev pub Stays : Watch → Answer → List ℕ → Reply → List ℕ → Type 0
+Stays w a book r book′ = (r ≡ record { watch = w; answer = a }) × (book′ ≡ book)
+
+abbrev pub restBy : Todo → Case → Sums → List ℕ → Reply → List ℕ → Type 0
+restBy (todo.Refused x) c n book r book′ = Stays (c .watch) (Refused x) book r book′
+restBy todo.Nothing c n book r book′ = Stays (c .watch) Passed book r book′
+restBy (todo.Hear x) c n book r book′ = Stays (c .watch) Passed book r book′
+restBy (todo.Plan p) c n book r book′ = Replans book (c .watch) p r book′
+restBy (todo.Own o) c n book r book′ =
+    Stays (record { present = c .watch .present; channel = c .watch .channel; ship = o }) Set book r book′
+restBy (todo.Choose a) c n book r book′ = Stays (c .watch) Passed book r book′
+restBy (todo.Report t) c n book r book′ = (r ≡ reportedReply book (c .watch) n t) × (book′ ≡ book)
+restBy todo.New c n book r book′ = Stays (c .watch) Passed book r book′
+restBy todo.Sum c n book r book′ = Stays (c .watch) (Summed (n .total)) book r book′
+
+-- ---- all of it
+
+abbrev pub doneOut : Case → List Station → List ℕ → Out Reply
+doneOut c reg book = outOf (doneTodo (c .todo) (stateOf reg book (c .watch)))
+
+abbrev pub agedOut : Case → List Station → List ℕ → Out Reply
+agedOut c reg book = outOf (doneTodo (c .todo) (aged (c .passes) (stateOf reg book (c .watch))))
+
+abbrev pub carriedOut : Case → List Station → List ℕ → Out Reply
+carriedOut c reg book = outOf (doneTodo (c .todo) (passes (stateOf reg book (c .watch)) (c .passes)))

@@ -1,0 +1,252 @@
+// What a call comes to, as far as the lengths, the bytes and the watch tell: refused, or to be done. Promise: as specs/Told.antt says.
+ghost use mathlib.Core.Path.{_≡_};
+ghost use lib.ListN.{length};
+ghost use Rattle.calls.specs.Told.{fitting, heardTodo, tellingTodo, planTodo, ownTodo, chooseTodo, reportTodo, fitTodo, todoOf, toldOf, isReady, aloneReply};
+use crate::Ask;
+use crate::What;
+use book::Watch;
+use choosing::Wanted;
+use hearing::Telling;
+use hearing::fair;
+use hearing::tell;
+use limits::RECORDS;
+use limits::SLOT_TIMES;
+use message::Received;
+use message::read;
+use numbers::Refusal;
+use plan::Plan;
+use register::Answer;
+use register::Reply;
+use reporting::Time;
+use ship::Owned;
+use ship::Ship;
+
+// The shortest and the longest time-out, as time-outs are.
+const LEAST_TIME_OUT: u16 = limits::LEAST_TIME_OUT as u16;
+
+const MOST_TIME_OUT: u16 = limits::MOST_TIME_OUT as u16;
+
+// What is left to be done.
+pub enum Todo {
+    Refused(Refusal),
+    Nothing,
+    Hear(Telling),
+    Plan(Plan),
+    Own(Ship),
+    Choose(Wanted),
+    Report(Time),
+    New,
+    Sum,
+}
+
+// How many slots pass first, and what is left to be done then.
+pub struct Case {
+    pub watch: Watch,
+    pub passes: u16,
+    pub todo: Todo,
+}
+
+fn fitting(n: usize, m: usize) -> bool
+    ensures { λ r. ⌜ r ≡ fitting n m ⌝ }
+{
+    if n != RECORDS {
+        return false;
+    }
+    m == SLOT_TIMES
+}
+
+// 20, 21, 22.
+fn telling_todo(x: Telling, own: u32, fits: bool) -> Todo
+    ensures { λ r. ⌜ r ≡ tellingTodo fits own x ⌝ }
+{
+    if !fits {
+        return Todo::Refused(Refusal::OtherLength);
+    }
+    if !fair(x.source, own) {
+        return Todo::Refused(Refusal::BadSource);
+    }
+    if x.repeat > 0 {
+        return Todo::Refused(Refusal::Repeated);
+    }
+    Todo::Hear(x)
+}
+
+// 17, 18 before all others.
+fn heard_todo(bytes: &[u8], own: u32, fits: bool) -> Todo
+    ensures { λ r. ⌜ r ≡ heardTodo fits own (now (bytes .entry)) ⌝ }
+{
+    let received = read(bytes);
+    match received {
+        Received::Refused(r) => Todo::Refused(r),
+        Received::Message(m) => {
+            let x = tell(m);
+            telling_todo(x, own, fits)
+        }
+    }
+}
+
+// 20, 30.
+fn plan_todo(p: Plan, fits: bool) -> Todo
+    ensures { λ r. ⌜ r ≡ planTodo fits p ⌝ }
+{
+    if !fits {
+        return Todo::Refused(Refusal::OtherLength);
+    }
+    if !p.good() {
+        return Todo::Refused(Refusal::OutOfRange);
+    }
+    Todo::Plan(p)
+}
+
+// 21, 30, whatever the lengths.
+fn own_todo(s: Ship) -> Todo
+    ensures { λ r. ⌜ r ≡ ownTodo s ⌝ }
+{
+    let owned = ship::own(s.source, s.latitude, s.longitude);
+    match owned {
+        Owned::Refused(r) => Todo::Refused(r),
+        Owned::Done(t) => Todo::Own(t),
+    }
+}
+
+// 20, 31, 30.
+fn choose_todo(p: Plan, a: Wanted, fits: bool) -> Todo
+    ensures { λ r. ⌜ r ≡ chooseTodo fits p a ⌝ }
+{
+    if !fits {
+        return Todo::Refused(Refusal::OtherLength);
+    }
+    if !p.good() {
+        return Todo::Refused(Refusal::NoPlan);
+    }
+    if a.k >= p.rate {
+        return Todo::Refused(Refusal::OutOfRange);
+    }
+    if a.timeout < LEAST_TIME_OUT {
+        return Todo::Refused(Refusal::OutOfRange);
+    }
+    if a.timeout > MOST_TIME_OUT {
+        return Todo::Refused(Refusal::OutOfRange);
+    }
+    Todo::Choose(a)
+}
+
+// 20, 31, 30.
+fn report_todo(p: Plan, t: Time, fits: bool) -> Todo
+    ensures { λ r. ⌜ r ≡ reportTodo fits p t ⌝ }
+{
+    if !fits {
+        return Todo::Refused(Refusal::OtherLength);
+    }
+    if !p.good() {
+        return Todo::Refused(Refusal::NoPlan);
+    }
+    if !reporting::fits(t) {
+        return Todo::Refused(Refusal::OutOfRange);
+    }
+    Todo::Report(t)
+}
+
+// 20 alone.
+fn fit_todo(todo: Todo, fits: bool) -> Todo
+    ensures { λ r. ⌜ r ≡ fitTodo fits todo ⌝ }
+{
+    if !fits {
+        return Todo::Refused(Refusal::OtherLength);
+    }
+    todo
+}
+
+fn todo_of(bytes: &[u8], watch: Watch, what: What, fits: bool) -> Todo
+    ensures { λ r. ⌜ r ≡ todoOf fits watch (now (bytes .entry)) what ⌝ }
+{
+    let ship = watch.ship;
+    let channel = watch.channel;
+    let plan = channel.plan;
+    match what {
+        What::Nothing => fit_todo(Todo::Nothing, fits),
+        What::Hear => heard_todo(bytes, ship.source, fits),
+        What::Plan(p) => plan_todo(p, fits),
+        What::Own(s) => own_todo(s),
+        What::Choose(a) => choose_todo(plan, a, fits),
+        What::Report(t) => report_todo(plan, t, fits),
+        What::New => fit_todo(Todo::New, fits),
+        What::Sum => fit_todo(Todo::Sum, fits),
+    }
+}
+
+// The case, with a register of n records and a book of m places. Where slots pass, the lengths are asked first.
+pub fn told(n: usize, m: usize, bytes: &[u8], x: Ask) -> Case
+    ensures { λ r. ⌜ r ≡ toldOf n m (now (bytes .entry)) x ⌝ }
+{
+    let watch = x.watch;
+    let what = x.what;
+    let fits = fitting(n, m);
+    if x.passes > 0 {
+        if !fits {
+            return Case {
+                watch,
+                passes: 0,
+                todo: Todo::Refused(Refusal::OtherLength),
+            };
+        }
+    }
+    let todo = todo_of(bytes, watch, what, fits);
+    Case {
+        watch,
+        passes: x.passes,
+        todo,
+    }
+}
+
+// Whether register and book are needed. Both have their lengths then.
+pub fn ready(c: Case) -> bool
+    ensures { λ r. ⌜ r ≡ isReady c ⌝ }
+{
+    if c.passes > 0 {
+        return true;
+    }
+    let todo = c.todo;
+    match todo {
+        Todo::Refused(_) => false,
+        Todo::Own(_) => false,
+        _ => true,
+    }
+}
+
+// The watch of another ship.
+pub fn with_ship(watch: Watch, ship: Ship) -> Watch
+    ensures { λ r. ⌜ r ≡ record { present = watch .present; channel = watch .channel; ship = ship } ⌝ }
+{
+    let channel = watch.channel;
+    Watch {
+        present: watch.present,
+        channel,
+        ship,
+    }
+}
+
+// The reply of a case that needs neither.
+pub fn alone(c: Case) -> Reply
+    ensures { λ r. ⌜ r ≡ aloneReply c ⌝ }
+{
+    let watch = c.watch;
+    let todo = c.todo;
+    match todo {
+        Todo::Refused(r) => Reply {
+            watch,
+            answer: Answer::Refused(r),
+        },
+        Todo::Own(s) => {
+            let set = with_ship(watch, s);
+            Reply {
+                watch: set,
+                answer: Answer::Set,
+            }
+        }
+        _ => Reply {
+            watch,
+            answer: Answer::Passed,
+        },
+    }
+}

@@ -1,0 +1,3 @@
+pub mod Folded
+pub mod Out
+pub mod Swept
