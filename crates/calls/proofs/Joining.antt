@@ -33,7 +33,8 @@ use Rattle.reporting.specs.Report.{ownAt, timeOut, heardStations, subMessage, r
 use Rattle.reporting.specs.declared.Time.{Time}
 use Rattle.reporting.specs.declared.Reported.the-variants.{Done, Refused as NotReported}
 use Rattle.hearing.specs.declared.Booking.{Booking}
-use Rattle.hearing.specs.Booking.{foundIn, fitOf, atOf, rowsOf, Noted, Booked, storedIn, freedOut, markedOut}
+use Rattle.hearing.specs.Hear.{recordFor}
+use Rattle.hearing.specs.Booking.{fitOf, atOf, rowsOf, Noted, Booked, storedIn, freedOut, markedOut}
 use Rattle.hearing.proofs.Joined.{freed-booked}
 use Rattle.hearing.proofs.Hears.{hears-is}
 use Rattle.choosing.specs.declared.Wanted.{Wanted}
@@ -88,7 +89,7 @@ sought-fits c ys bs b zs cs z s =
     }
 
 hear-comes : (t : Todo) (w : Watch) (ys : List Station) (bs : List ℕ) (b : Booking) → isHear t ≡ true → length ys ≡ records
-    → (let q = hearingBy t w in let f = foundIn ys q in Noted q (fitOf q f) (atOf q f) (rowsOf q f) b)
+    → (let q = hearingBy t w in let k = recordFor ys (q .telling .source) in Noted q (fitOf q k) (atOf q k) (rowsOf q k) b)
     → enteredOut b ys bs ≡ outOf (doneTodo t (stateOf ys bs w))
 unfolding doneTodo
 hear-comes (todo.Refused r) w ys bs b e many n = never e

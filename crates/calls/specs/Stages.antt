@@ -33,8 +33,8 @@ use Rattle.reporting.specs.declared.Reported.the-variants.{Done, Refused as Not
 use Rattle.reporting.specs.Report.{ownAt, heardStations, reported}
 use Rattle.hearing.specs.declared.Hearing.{Hearing}
 use Rattle.hearing.specs.declared.Booking.{Booking}
-use Rattle.hearing.specs.Hear.{tellingOf, bookTests, hears}
-use Rattle.hearing.specs.Booking.{foundIn, fitOf, atOf, rowsOf, Noted, storedIn, freedOut, markedOut}
+use Rattle.hearing.specs.Hear.{tellingOf, recordFor, bookTests, hears}
+use Rattle.hearing.specs.Booking.{fitOf, atOf, rowsOf, Noted, storedIn, freedOut, markedOut}
 use Rattle.choosing.specs.declared.Query.{Query}
 use Rattle.choosing.specs.declared.own.Owning.{Owning}
 use Rattle.choosing.specs.Choosing.{askFits}
@@ -141,7 +141,7 @@ unfoldable pub hearingOf : Case → Hearing
 hearingOf c = hearingBy (c .todo) (c .watch)
 
 pub record Sought (c : Case) (reg : List Station) (book : List ℕ) (b : Booking) (reg′ : List Station) (book′ : List ℕ) : Type 0 where
-  pub noted : let q = hearingOf c in let f = foundIn reg q in Noted q (fitOf q f) (atOf q f) (rowsOf q f) b
+  pub noted : let q = hearingOf c in let k = recordFor reg (q .telling .source) in Noted q (fitOf q k) (atOf q k) (rowsOf q k) b
   pub leaves : reg′ ≡ reg
   pub writes : book′ ≡ book
 

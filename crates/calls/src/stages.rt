@@ -40,7 +40,6 @@ use choosing::own::outcome;
 use choosing::own::own_frames;
 use choosing::scan;
 use hearing::Booking;
-use hearing::Found;
 use hearing::Hearing;
 use hearing::find;
 use hearing::free_times;
@@ -193,11 +192,11 @@ fn hearing_of(book: &[u16], c: Case) -> Hearing
     }
 }
 
-fn note(book: &mut [u16], q: Hearing, f: Found) -> Booking
+fn note(book: &mut [u16], q: Hearing, k: usize) -> Booking
     requires { ⌜ length (now book) ≡ slotTimes ⌝ }
-    ensures { λ r. ⌜ Noted q (fitOf q f) (atOf q f) (rowsOf q f) r × (now (book .exit) ≡ now (book .entry)) ⌝ }
+    ensures { λ r. ⌜ Noted q (fitOf q k) (atOf q k) (rowsOf q k) r × (now (book .exit) ≡ now (book .entry)) ⌝ }
 {
-    noted(q, f)
+    noted(q, k)
 }
 
 // The station's record is looked up.
@@ -206,8 +205,8 @@ fn seek(reg: &mut [Station], book: &mut [u16], c: Case) -> Booking
     ensures { λ r. ⌜ Sought c (now (reg .entry)) (now (book .entry)) r (now (reg .exit)) (now (book .exit)) ⌝ }
 {
     let q = hearing_of(book, c);
-    let f = find(reg, q);
-    note(book, q, f)
+    let k = find(reg, q);
+    note(book, q, k)
 }
 
 fn announce(reg: &mut [Station], book: &mut [u16], b: Booking) -> Reply

@@ -4,8 +4,6 @@ use Rattle.register.proofs.Reply.Laws as R′
 use Rattle.walks.proofs.Datum.{Datum, Law, struct, struct-law}
 use Rattle.hearing.proofs.Hearing as H
 use Rattle.hearing.proofs.Hearing.Laws as H′
-use Rattle.hearing.proofs.Found as F
-use Rattle.hearing.proofs.Found.Laws as F′
 use Rattle.hearing.proofs.Booking as B
 use Rattle.hearing.proofs.Booking.Laws as B′
 
@@ -14,12 +12,6 @@ HearingD = struct H.the-type
 
 abbrev pub HearingL : Law HearingD
 HearingL = struct-law H.the-type H′.the-laws H′.the-plain
-
-abbrev pub FoundD : Datum
-FoundD = struct F.the-type
-
-abbrev pub FoundL : Law FoundD
-FoundL = struct-law F.the-type F′.the-laws F′.the-plain
 
 abbrev pub BookingD : Datum
 BookingD = struct B.the-type

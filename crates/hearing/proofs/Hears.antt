@@ -2,7 +2,7 @@
 --     noted-booked     what is noted meets what the runs need.        marks-booked     and still does after the first of them
 --     hears-is         find, noted, store, free_times and mark_times together
 -- Assumes nothing.
-use mathlib.Core.Path.{_≡_, sym, ap, subst, _∙_}
+use mathlib.Core.Path.{_≡_, sym, ap, _∙_}
 use mathlib.Core.Bool.{true, false}
 use mathlib.Core.List.{List, []}
 use Prim.Native.Nat.{ℕ, suc, _≤_, _<_}
@@ -36,9 +36,8 @@ use Rattle.hearing.specs.declared.Fit.{Fit}
 use Rattle.hearing.specs.declared.Fit.the-variants.{Yes, Refused as NotFit}
 use Rattle.hearing.specs.declared.Booking.{Booking}
 use Rattle.hearing.specs.Hear.{recordFor, entered, stored, heard, marksOf, bookTests, hears}
-use Rattle.hearing.specs.Booking.{foundIn, recordIn, fitOf, atOf, rowsOf, fits, Noted, placeOf, holderOf, storedBy, storedIn, Booked, replyOf, freedOut}
+use Rattle.hearing.specs.Booking.{fitOf, atOf, rowsOf, fits, Noted, placeOf, holderOf, storedBy, storedIn, Booked, replyOf, freedOut}
 use Rattle.hearing.proofs.Entering.{place-at, stored-many}
-use Rattle.hearing.proofs.Finding.{record-found}
 use Rattle.hearing.proofs.Noting.{booking, fit-none, fit-beyond, fit-yes}
 use Rattle.hearing.proofs.Joined.{freed-booked, goesOn, leaving, both-runs}
 
@@ -103,15 +102,15 @@ module _ (reg : List Station) (book : List ℕ) (w : Watch) (x : Telling) (many 
 
     -- ---- a report that is booked
 
-    module _ (k : ℕ) (is : k ≡ recordFor reg (x .source)) (l : k < records) where
+    module _ (l : recordFor reg (x .source) < records) where
       abbrev told : List Row
       told = announces (x .state)
 
       abbrev fit : Booking
-      fit = booking q Yes k (filled told) frees marks
+      fit = booking q Yes (recordFor reg (x .source)) (filled told) frees marks
 
       place-is : placeOf fit ≡ recordFor reg (x .source)
-      place-is = sym (place-at fit l) ∙ is
+      place-is = sym (place-at fit l)
 
       holder-is : holderOf fit ≡ suc (recordFor reg (x .source))
       unfolding holderOf
@@ -159,14 +158,11 @@ module _ (reg : List Station) (book : List ℕ) (w : Watch) (x : Telling) (many 
 
   -- the record that was found
   abbrev k : ℕ
-  k = recordIn (foundIn reg q)
+  k = recordFor reg (x .source)
 
-  is-record : k ≡ recordFor reg (x .source)
-  is-record = record-found reg q many
-
-  module _ (b : Booking) (noted : Noted q (fitOf q (foundIn reg q)) (atOf q (foundIn reg q)) (rowsOf q (foundIn reg q)) b) where
+  module _ (b : Booking) (noted : Noted q (fitOf q k) (atOf q k) (rowsOf q k) b) where
     -- what is noted, where y is whether it is fit
-    noted-by : (y : Fit) → fitOf q (foundIn reg q) ≡ y
+    noted-by : (y : Fit) → fitOf q k ≡ y
         → b ≡ booking q y (fits y k 0) (fits y (filled (announces (x .state))) (filled [])) (b .frees) (b .marks)
     noted-by y e =
         noted-is q _ _ _ b noted
@@ -175,18 +171,18 @@ module _ (reg : List Station) (book : List ℕ) (w : Watch) (x : Telling) (many 
     no-record-is : ltb k records ≡ false → done b ≡ outOf answer
     no-record-is e =
         let l : records ≤ k = ltb-false k records e in
-        ap done (noted-by (NotFit NoRecord) (fit-none q (foundIn reg q) l)) ∙ refused-out (b .frees) (b .marks) NoRecord
-        ∙ ap outOf (sym (tests-none (subst (λ (n : ℕ). records ≤ n) is-record l)))
+        ap done (noted-by (NotFit NoRecord) (fit-none q k l)) ∙ refused-out (b .frees) (b .marks) NoRecord
+        ∙ ap outOf (sym (tests-none l))
 
     beyond-is : k < records → inBook (announces (x .state)) ≡ false → done b ≡ outOf answer
     beyond-is l e =
-        ap done (noted-by (NotFit BeyondBook) (fit-beyond q (foundIn reg q) l e)) ∙ refused-out (b .frees) (b .marks) BeyondBook
-        ∙ ap outOf (sym (tests-beyond (subst (λ (n : ℕ). n < records) is-record l) e))
+        ap done (noted-by (NotFit BeyondBook) (fit-beyond q k l e)) ∙ refused-out (b .frees) (b .marks) BeyondBook
+        ∙ ap outOf (sym (tests-beyond l e))
 
     heard-is-all : k < records → inBook (announces (x .state)) ≡ true → done b ≡ outOf answer
     heard-is-all l e =
-        ap done (noted-by Yes (fit-yes q (foundIn reg q) l e)) ∙ heard-out (b .frees) (b .marks) k is-record l
-        ∙ ap outOf (sym (tests-hold (subst (λ (n : ℕ). n < records) is-record l) e))
+        ap done (noted-by Yes (fit-yes q k l e)) ∙ heard-out (b .frees) (b .marks) l
+        ∙ ap outOf (sym (tests-hold l e))
 
     with-record : ltb k records ≡ true → done b ≡ outOf answer
     with-record e =

@@ -19,11 +19,10 @@ use Rattle.announcing.proofs.Filling.{few-announced, in-book-filled, marks-fill
 use Rattle.announcing.proofs.Skipping.{next-none}
 use Rattle.register.specs.declared.Answer.the-variants.{Heard, Refused}
 use Rattle.hearing.specs.declared.Hearing.{Hearing}
-use Rattle.hearing.specs.declared.Found.{Found}
 use Rattle.hearing.specs.declared.Fit.{Fit}
 use Rattle.hearing.specs.declared.Fit.the-variants.{Yes, Refused as NotFit}
 use Rattle.hearing.specs.declared.Booking.{Booking}
-use Rattle.hearing.specs.Booking.{recordIn, fitOf, fits, atOf, rowsOf, Noted, replyOf}
+use Rattle.hearing.specs.Booking.{fitOf, fits, atOf, rowsOf, Noted, replyOf}
 
 -- ---- a report that cannot be booked
 
@@ -57,47 +56,47 @@ unfit-noted q why rows e =
 
 -- ---- why it is not fit, and that it is
 
-module _ (q : Hearing) (f : Found) where
+-- k is its station's record
+module _ (q : Hearing) (k : ℕ) where
   -- the rows that it announces
   abbrev told : List Row
   told = announces (q .telling .state)
 
-  pub fit-none : records ≤ recordIn f → fitOf q f ≡ NotFit NoRecord
+  pub fit-none : records ≤ k → fitOf q k ≡ NotFit NoRecord
   unfolding fitOf
-  fit-none l = simp (le-ltb (recordIn f) records l)
+  fit-none l = simp (le-ltb k records l)
 
-  pub fit-beyond : recordIn f < records → inBook told ≡ false → fitOf q f ≡ NotFit BeyondBook
+  pub fit-beyond : k < records → inBook told ≡ false → fitOf q k ≡ NotFit BeyondBook
   unfolding fitOf
-  fit-beyond l e = simp (lt-ltb (recordIn f) records l, e)
+  fit-beyond l e = simp (lt-ltb k records l, e)
 
-  pub fit-yes : recordIn f < records → inBook told ≡ true → fitOf q f ≡ Yes
+  pub fit-yes : k < records → inBook told ≡ true → fitOf q k ≡ Yes
   unfolding fitOf
-  fit-yes l e = simp (lt-ltb (recordIn f) records l, e)
+  fit-yes l e = simp (lt-ltb k records l, e)
 
   -- so what was noted of the kind is what is to be noted
-  noted-as : (x : Fit) (b : Booking) → fitOf q f ≡ x → Noted q x (fits x (recordIn f) 0) (fits x (filled told) (filled [])) b
-      → Noted q (fitOf q f) (atOf q f) (rowsOf q f) b
-  noted-as x b e = subst (λ (y : Fit). Noted q y (fits y (recordIn f) 0) (fits y (filled told) (filled [])) b) (sym e)
+  noted-as : (x : Fit) (b : Booking) → fitOf q k ≡ x → Noted q x (fits x k 0) (fits x (filled told) (filled [])) b
+      → Noted q (fitOf q k) (atOf q k) (rowsOf q k) b
+  noted-as x b e = subst (λ (y : Fit). Noted q y (fits y k 0) (fits y (filled told) (filled [])) b) (sym e)
 
-  pub no-record : (k : ℕ) (b : Booking) → k ≡ recordIn f → records ≤ k → Noted q (NotFit NoRecord) 0 (filled []) b
-      → Noted q (fitOf q f) (atOf q f) (rowsOf q f) b
-  no-record k b is l = noted-as (NotFit NoRecord) b (fit-none (subst (λ (n : ℕ). records ≤ n) is l))
+  pub no-record : (b : Booking) → records ≤ k → Noted q (NotFit NoRecord) 0 (filled []) b
+      → Noted q (fitOf q k) (atOf q k) (rowsOf q k) b
+  no-record b l = noted-as (NotFit NoRecord) b (fit-none l)
 
   -- the rows as the code has them
   inside-is : (rows : List Row) → rows ≡ filled told → inBook told ≡ inBook rows
   inside-is rows e = sym (ap inBook e ∙ in-book-filled told (few-announced (q .telling .state)))
 
-  pub beyond : (k : ℕ) (b : Booking) → k ≡ recordIn f → k < records → (rows : List Row) → rows ≡ filled told → inBook rows ≡ false
-      → Noted q (NotFit BeyondBook) 0 (filled []) b → Noted q (fitOf q f) (atOf q f) (rowsOf q f) b
-  beyond k b is l rows e out =
-      noted-as (NotFit BeyondBook) b (fit-beyond (subst (λ (n : ℕ). n < records) is l) (inside-is rows e ∙ out))
+  pub beyond : (b : Booking) → k < records → (rows : List Row) → rows ≡ filled told → inBook rows ≡ false
+      → Noted q (NotFit BeyondBook) 0 (filled []) b → Noted q (fitOf q k) (atOf q k) (rowsOf q k) b
+  beyond b l rows e out = noted-as (NotFit BeyondBook) b (fit-beyond l (inside-is rows e ∙ out))
 
-  pub fit-noted : (k : ℕ) → k ≡ recordIn f → k < records → (rows : List Row) → rows ≡ filled told → inBook rows ≡ true
+  pub fit-noted : k < records → (rows : List Row) → rows ≡ filled told → inBook rows ≡ true
       → (frees marks : ℕ) → Next (freesTime rows) 0 frees → Next (marksTime rows) 0 marks
-      → Noted q (fitOf q f) (atOf q f) (rowsOf q f) (booking q Yes k rows frees marks)
-  fit-noted k is l rows e within frees marks n m =
-      noted-as Yes (booking q Yes k rows frees marks) (fit-yes (subst (λ (n : ℕ). n < records) is l) (inside-is rows e ∙ within))
-      (record { watch = refl; telling = refl; is-fit = refl; place = is; announced = e; inside = within; frees = n; marks = m })
+      → Noted q (fitOf q k) (atOf q k) (rowsOf q k) (booking q Yes k rows frees marks)
+  fit-noted l rows e within frees marks n m =
+      noted-as Yes (booking q Yes k rows frees marks) (fit-yes l (inside-is rows e ∙ within))
+      (record { watch = refl; telling = refl; is-fit = refl; place = refl; announced = e; inside = within; frees = n; marks = m })
 
 -- ---- the reply
 

@@ -6,7 +6,7 @@ use mathlib.Core.List.{List}
 use Prim.Native.Nat.{ℕ, suc, _+_, _-_, _<_}
 use native.Mathlib.Omega.{arith}
 use borrow.Author.Tests.{ltb-true, ltb-false}
-use lib.Dec.{ltb}
+use lib.Dec.{eqb, ltb}
 use lib.ListN.{length}
 use Rattle.laws.specs.Ranges.{howMany}
 use Rattle.laws.proofs.Ranges.{many-le}
@@ -25,31 +25,30 @@ use Rattle.register.specs.Register.{lostIn, wonIn}
 use Rattle.register.proofs.Settling.{bare, both-followed, follows, followed-bare, settle-is}
 use Rattle.register.proofs.Data.{TurnD}
 use Rattle.walks.specs.Out.{Ends}
+use Rattle.walks.specs.Swept.{sought}
 use Rattle.walks.proofs.Walking as Walking
-use Rattle.walks.proofs.Sweeping as Sweeping
+use Rattle.walks.proofs.Seconds as Seconds
 use Rattle.hearing.specs.declared.Booking.{Booking}
-use Rattle.hearing.specs.Booking.{unfound, foundWith, foundIn, holderOf, started, Steps, freeing, marking, FreesOne, MarksOne, Booked, rewatched, replyOf, freedState, markedState, freedOut, markedOut}
-use Rattle.hearing.proofs.Data.{HearingD, FoundD, BookingD, ReplyD}
-use Rattle.hearing.proofs.Finding.{sweep-finds}
+use Rattle.hearing.specs.Hear.{recordFor}
+use Rattle.hearing.specs.Booking.{holderOf, started, Steps, freeing, marking, FreesOne, MarksOne, Booked, rewatched, replyOf, freedState, markedState, freedOut, markedOut}
+use Rattle.hearing.proofs.Data.{HearingD, BookingD, ReplyD}
+use Rattle.hearing.proofs.Finding.{record-its, record-idle}
 
 -- ---- the search
 
-abbrev pub ofFind : Sweeping.Meaning HearingD FoundD
+abbrev pub ofFind : Seconds.Meaning HearingD
 ofFind = record {
-  start = λ q. unfound;
-  c = foundWith;
-  gives = foundIn;
+  one = λ ys q. sought (λ (s : Station). eqb (s .source) (q .telling .source)) ys;
+  two = λ ys q. sought (λ (s : Station). eqb (s .tally) 0) ys;
+  there = λ k. ltb k records;
+  gives = λ ys q. recordFor ys (q .telling .source);
   Need = λ ys q. length ys ≡ records;
-  NeedC = λ f r q i. i < records;
 }
 
-pub find-enough : Sweeping.Enough ofFind
+pub find-enough : Seconds.Enough ofFind
 find-enough = record {
-  I = λ ys q f i. Unit {0};
-  starts = λ ys q need. tt;
-  turns = λ ys q f i need is l small. tt;
-  for-c = λ ys q f i need is l. omega (arith, need, l);
-  comes-to = λ ys q need. sweep-finds ys q need;
+  by-one = λ ys q many e. record-its ys (q .telling .source) many e;
+  by-two = λ ys q many e. record-idle ys (q .telling .source) many e;
 }
 
 -- ---- a run: f at each time that passes the test p, from one to the next

@@ -1,12 +1,12 @@
--- How a report is booked: the record that is found, what is stored in it, and the runs over the times that are freed and marked.
+-- How a report is booked: what is noted of it, what is stored in its record, and the runs over the times that are freed and marked.
 -- Assumes nothing.
 use Prim.Native.Nat.{ℕ, suc, _+_, _<_}
 use mathlib.Core.Path.{_≡_}
-use mathlib.Core.Bool.{Bool, true, false}
+use mathlib.Core.Bool.{true}
 use mathlib.Core.List.{List, [], _∷_}
 use lib.Dec.{eqb, ltb}
 use lib.ListN.{length, getD, set}
-use Rattle.laws.specs.Tests.{pick, both, ladder}
+use Rattle.laws.specs.Tests.{pick, ladder}
 use Rattle.laws.specs.Counting.{one}
 use Rattle.limits.specs.Limits.{slotTimes, records}
 use Rattle.numbers.specs.declared.Refusal.the-variants.{NoRecord, BeyondBook}
@@ -22,50 +22,29 @@ use Rattle.announcing.specs.Announce.{announces, filled}
 use Rattle.register.specs.declared.Turn.{Turn}
 use Rattle.register.specs.declared.Reply.{Reply}
 use Rattle.register.specs.declared.Answer.the-variants.{Heard, Refused}
-use Rattle.register.specs.State.{State, stateOf, sourcesIn, talliesIn, bookIn, settle}
+use Rattle.register.specs.State.{State, stateOf, bookIn, settle}
 use Rattle.walks.specs.Out.{Out, out}
 use Rattle.hearing.specs.declared.Hearing.{Hearing}
-use Rattle.hearing.specs.declared.Found.{Found}
 use Rattle.hearing.specs.declared.Fit.{Fit}
 use Rattle.hearing.specs.declared.Fit.the-variants.{Yes, Refused as NotFit}
 use Rattle.hearing.specs.declared.Booking.{Booking}
-use Rattle.hearing.specs.Station.{indexOf}
 use Rattle.hearing.specs.Hear.{entered}
-
--- ---- the record
-
-abbrev pub unfound : Found
-unfound = record { with = records; idle = records }
-
--- i where nothing was found before and x is what is sought
-unfoldable pub firstOf : ℕ → ℕ → ℕ → ℕ → ℕ
-firstOf found x sought i = pick (both (eqb found records) (eqb x sought)) i found
-
--- with the record i more
-unfoldable pub foundWith : Found → Station → Hearing → ℕ → Found
-foundWith f r q i =
-    record { with = firstOf (f .with) (r .source) (q .telling .source) i; idle = firstOf (f .idle) (r .tally) 0 i }
-
-unfoldable pub foundIn : List Station → Hearing → Found
-foundIn reg q = record { with = indexOf (q .telling .source) (sourcesIn reg); idle = indexOf 0 (talliesIn reg) }
-
-unfoldable pub recordIn : Found → ℕ
-recordIn f = pick (ltb (f .with) records) (f .with) (f .idle)
 
 -- ---- what is to be booked
 
-unfoldable pub fitOf : Hearing → Found → Fit
-fitOf q f = ladder ((ltb (recordIn f) records, NotFit NoRecord) ∷ (inBook (announces (q .telling .state)), NotFit BeyondBook) ∷ []) Yes
+-- k is the station's record
+unfoldable pub fitOf : Hearing → ℕ → Fit
+fitOf q k = ladder ((ltb k records, NotFit NoRecord) ∷ (inBook (announces (q .telling .state)), NotFit BeyondBook) ∷ []) Yes
 
 abbrev pub fits : {A : Type 0} → Fit → A → A → A
 fits Yes a b = a
 fits (NotFit r) a b = b
 
-abbrev pub atOf : Hearing → Found → ℕ
-atOf q f = fits (fitOf q f) (recordIn f) 0
+abbrev pub atOf : Hearing → ℕ → ℕ
+atOf q k = fits (fitOf q k) k 0
 
-abbrev pub rowsOf : Hearing → Found → List Row
-rowsOf q f = fits (fitOf q f) (filled (announces (q .telling .state))) (filled [])
+abbrev pub rowsOf : Hearing → ℕ → List Row
+rowsOf q k = fits (fitOf q k) (filled (announces (q .telling .state))) (filled [])
 
 pub record Noted (q : Hearing) (fit : Fit) (at : ℕ) (rows : List Row) (b : Booking) : Type 0 where
   pub watch : b .watch ≡ q .watch

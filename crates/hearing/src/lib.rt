@@ -12,10 +12,12 @@ ghost use Rattle.limits.specs.Limits.{slotTimes, records};
 ghost use Rattle.announcing.specs.Announce.{filled};
 ghost use Rattle.register.specs.State.{withCounts};
 ghost use Rattle.walks.specs.Out.{Ends};
+ghost use Rattle.walks.specs.Swept.{sought};
+ghost use Rattle.ship.specs.declared.Station.{Station};
 ghost use Rattle.hearing.specs.declared.Fit.the-variants.{Refused as NotFit};
 ghost use Rattle.hearing.specs.Station.{fairOther};
-ghost use Rattle.hearing.specs.Hear.{tellingOf};
-ghost use Rattle.hearing.specs.Booking.{unfound, firstOf, foundWith, foundIn, recordIn, fitOf, atOf, rowsOf, Noted, placeOf, storedBy, storedIn, holderOf, started, Steps, FreesOne, MarksOne, rewatched, replyOf, Booked, freedOut, markedOut};
+ghost use Rattle.hearing.specs.Hear.{tellingOf, recordFor};
+ghost use Rattle.hearing.specs.Booking.{fitOf, atOf, rowsOf, Noted, placeOf, storedBy, storedIn, holderOf, started, Steps, FreesOne, MarksOne, rewatched, replyOf, Booked, freedOut, markedOut};
 use announcing::rows::ROWS;
 use announcing::rows::Row;
 use announcing::rows::announced;
@@ -59,12 +61,6 @@ pub struct Telling {
 pub struct Hearing {
     pub watch: Watch,
     pub telling: Telling,
-}
-
-// The lowest record with the source and the lowest with tally 0, RECORDS where there is none.
-pub struct Found {
-    pub with: usize,
-    pub idle: usize,
 }
 
 // Whether a report can be booked.
@@ -147,60 +143,64 @@ pub fn fair(source: u32, own: u32) -> bool
 
 // ---- the record
 
-fn unfound(q: Hearing) -> Found
-    ensures { λ r. ⌜ r ≡ unfound ⌝ }
-{
-    Found {
-        with: RECORDS,
-        idle: RECORDS,
-    }
-}
-
-// i where nothing was found before and x is what is sought.
-fn first(found: usize, x: u32, sought: u32, i: usize) -> usize
-    ensures { λ r. ⌜ r ≡ firstOf found x sought i ⌝ }
-{
-    if found == RECORDS {
-        if x == sought {
-            return i;
-        }
-    }
-    found
-}
-
-// With the record i more.
-fn found_with(f: Found, s: Station, q: Hearing, i: usize) -> Found
-    requires { ⌜ i < records ⌝ }
-    ensures { λ r. ⌜ r ≡ foundWith f s q i ⌝ }
+// Whether the record is the station's.
+fn is_its(s: Station, q: Hearing) -> bool
+    ensures { λ r. ⌜ r ≡ eqb (s .source) (q .telling .source) ⌝ }
 {
     let telling = q.telling;
-    let with = first(f.with, s.source, telling.source, i);
-    let idle = first(f.idle, s.tally as u32, 0, i);
-    Found { with, idle }
+    s.source == telling.source
 }
 
-// The lowest record with the source, and the lowest with tally 0.
-pub fn find(reg: &[Station], q: Hearing) -> Found
-    requires { ⌜ length (now reg) ≡ records ⌝ }
-    ensures { λ r. ⌜ r ≡ foundIn (now (reg .entry)) q ⌝ }
+// Whether it holds nothing.
+fn is_idle(s: Station, q: Hearing) -> bool
+    ensures { λ r. ⌜ r ≡ eqb (s .tally) 0 ⌝ }
 {
-    let mut f = unfound(q);
+    s.tally == 0
+}
+
+// The first of these, and how many records there are where there is none.
+fn first_its(reg: &[Station], q: Hearing) -> usize
+    ensures { λ r. ⌜ r ≡ sought (λ (s : Station). eqb (s .source) (q .telling .source)) (now (reg .entry)) ⌝ }
+{
     let mut i: usize = 0;
     while i < reg.len() {
-        f = found_with(f, reg[i], q, i);
+        if is_its(reg[i], q) {
+            return i;
+        }
         i += 1;
     }
-    f
+    i
 }
 
-// The record that the station has now: the lowest with its source, else the lowest with tally 0, which is taken over.
-fn record_in(f: Found) -> usize
-    ensures { λ r. ⌜ r ≡ recordIn f ⌝ }
+fn first_idle(reg: &[Station], q: Hearing) -> usize
+    ensures { λ r. ⌜ r ≡ sought (λ (s : Station). eqb (s .tally) 0) (now (reg .entry)) ⌝ }
 {
-    if f.with < RECORDS {
-        return f.with;
+    let mut i: usize = 0;
+    while i < reg.len() {
+        if is_idle(reg[i], q) {
+            return i;
+        }
+        i += 1;
     }
-    f.idle
+    i
+}
+
+fn is_there(k: usize) -> bool
+    ensures { λ r. ⌜ r ≡ ltb k records ⌝ }
+{
+    k < RECORDS
+}
+
+// The record that the station has now: the lowest with its source, else the lowest with tally 0, which is taken over; RECORDS where there is none.
+pub fn find(reg: &[Station], q: Hearing) -> usize
+    requires { ⌜ length (now reg) ≡ records ⌝ }
+    ensures { λ r. ⌜ r ≡ recordFor (now (reg .entry)) (q .telling .source) ⌝ }
+{
+    let k = first_its(reg, q);
+    if is_there(k) {
+        return k;
+    }
+    first_idle(reg, q)
 }
 
 // A report that cannot be booked announces nothing.
@@ -222,10 +222,9 @@ fn unfit(q: Hearing, why: Refusal) -> Booking
 }
 
 // What is to be booked: 23, 35.
-pub fn noted(q: Hearing, f: Found) -> Booking
-    ensures { λ r. ⌜ Noted q (fitOf q f) (atOf q f) (rowsOf q f) r ⌝ }
+pub fn noted(q: Hearing, k: usize) -> Booking
+    ensures { λ r. ⌜ Noted q (fitOf q k) (atOf q k) (rowsOf q k) r ⌝ }
 {
-    let k = record_in(f);
     if k >= RECORDS {
         return unfit(q, Refusal::NoRecord);
     }

@@ -16,8 +16,11 @@ pub mod WalkingCode
 pub mod Walking
 pub mod Sweeps
 pub mod Sweeping
-pub mod Stage
 pub mod Truth
+pub mod Seeks
+pub mod Seeking
+pub mod Seconds
+pub mod Stage
 pub mod Then
 pub mod Either
 pub mod Writing

@@ -1,14 +1,17 @@
 -- `calls::stages::seek` meets its contract: an instance of `SeenAlone.antt` of walks. Assumes nothing.
 use mathlib.Core.Path.{_≡_, refl}
 use lib.ListN.{length}
+use mir.Syntax.{w64}
 use Rattle.limits.specs.Limits.{slotTimes, records}
-use Rattle.hearing.specs.Booking.{foundIn, fitOf, atOf, rowsOf, Noted}
-use Rattle.hearing.proofs.Data.{HearingD, HearingL, FoundD, FoundL, BookingD, BookingL}
+use Rattle.hearing.specs.Hear.{recordFor}
+use Rattle.hearing.specs.Booking.{fitOf, atOf, rowsOf, Noted}
+use Rattle.hearing.proofs.Data.{HearingD, HearingL, BookingD, BookingL}
 use Rattle.calls.specs.Stages.{Sized, hearingOf, Sought}
 use Rattle.calls.proofs.Data.{CaseD, CaseL}
 use contract.Running.{givenOf, tables, tablesOf}
 use denote.Triple.Spec.{tripleOf}
 use denote.Triple.Table.{entered, cited}
+use Rattle.walks.proofs.Datum.{number, number-law}
 use Rattle.walks.proofs.SeenAlone.{meets}
 use Rattle.calls.proofs.stages.hearing_of as first
 use Rattle.calls.proofs.stages.hearing_of.Symbol as first-def
@@ -29,9 +32,10 @@ unfolding code.routine tablesOf
 seek-spec 𝓤 H 𝓜 𝓖 𝓡 =
     entered 𝓤 H (tripleOf 𝓤 H (𝓖 .A) f.signature (f.spec 𝓤 H (𝓖 .A) (𝓜 .mem) (𝓡 .run)))
     (tables 𝓤 H 𝓜 𝓡 code.env .C) (tables 𝓤 H 𝓜 𝓡 code.env .Λ) #f code.function (code.unfolded 𝓤 H 𝓜 𝓡)
-    (meets CaseD CaseL HearingD HearingL FoundD FoundL BookingD BookingL
-    (λ bs c. length bs ≡ slotTimes) (λ bs c. hearingOf c) (λ ys q. length ys ≡ records) foundIn (λ bs q f. length bs ≡ slotTimes)
-    (λ bs q f r cs. Noted q (fitOf q f) (atOf q f) (rowsOf q f) r × (cs ≡ bs)) (λ ys bs c. Sized ys bs) Sought
+    (meets CaseD CaseL HearingD HearingL (number w64) (number-law w64) BookingD BookingL
+    (λ bs c. length bs ≡ slotTimes) (λ bs c. hearingOf c) (λ ys q. length ys ≡ records) (λ ys q. recordFor ys (q .telling .source))
+    (λ bs q k. length bs ≡ slotTimes)
+    (λ bs q k r cs. Noted q (fitOf q k) (atOf q k) (rowsOf q k) r × (cs ≡ bs)) (λ ys bs c. Sized ys bs) Sought
     (λ ys bs c n. n .size) (λ ys bs c n. n .register) (λ ys bs c n. n .size)
     (λ ys bs c r cs n e lc. record { noted = e .0; leaves = refl; writes = e .1 }) first-def.name look-def.name last-def.name
     𝓤 H (𝓖 .A) (givenOf 𝓤 H 𝓜 𝓖) (tablesOf 𝓤 H 𝓜 (tables 𝓤 H 𝓜 𝓡 code.env))
