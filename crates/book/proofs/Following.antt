@@ -1,7 +1,7 @@
 -- A tally changed where the counts and the records' tallies stand apart comes to the tally changed in the list of all.
 -- Assumes nothing.
 use mathlib.Core.Path.{_≡_, refl, sym, ap, _∙_}
-use mathlib.Core.Bool.{Bool, true, false}
+use mathlib.Core.Bool.{true, false}
 use mathlib.Core.List.{List}
 use Prim.Native.Nat.{ℕ, _-_, _≤_, _<_}
 use native.Mathlib.Decide.{ℕ-discrete, decLt}
@@ -13,7 +13,7 @@ use Rattle.laws.proofs.Tests.{both-no, pick-has}
 use Rattle.limits.specs.Limits.{records}
 use Rattle.book.specs.declared.Counts.{Counts}
 use Rattle.book.specs.declared.Handing.{Handing}
-use Rattle.book.specs.Book.{Book, ours, isRecord, raised, lowered, wide, alter, bookOf, putAt, markAt, freeAt, countsBy, talliesBy, followed, Puts, Gives}
+use Rattle.book.specs.Book.{Book, ours, isRecord, raised, lowered, wide, alter, bookOf, putAt, countsBy, talliesBy, followed, Puts, Gives}
 use Rattle.book.proofs.Wide.{alter-free, alter-record, alter-own, alter-none}
 
 -- ---- which holders have a record

@@ -10,7 +10,7 @@ use lib.Seq.{getD-set-same, getD-set-other}
 use Rattle.laws.specs.Loops.{upto}
 use Rattle.laws.proofs.Counting.{count-none}
 use Rattle.limits.specs.Limits.{slotTimes}
-use Rattle.book.specs.Book.{Book, holders, holder, putAt, freeAt, released}
+use Rattle.book.specs.Book.{Book, holder, putAt, freeAt, released}
 use Rattle.book.specs.Sound.{Sound}
 use Rattle.book.specs.Promises.{ReleaseLeavesNone}
 use Rattle.book.proofs.Soundness.{sound-release}

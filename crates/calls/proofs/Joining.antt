@@ -6,21 +6,19 @@ use mathlib.Core.List.{List, [], _∷_, map}
 use Prim.Native.Nat.{ℕ, _+_, _≤_, _<_}
 use native.Mathlib.Omega.{arith}
 use lib.Dec.{ltb}
-use lib.ListN.{length, set, getD, replicate, length-set, length-map}
-use Rattle.laws.specs.Tests.{pick, both, between, ladder}
-use Rattle.laws.proofs.Tests.{never, both-left, both-right, between-is}
+use lib.ListN.{length, replicate, length-set, length-map}
+use Rattle.laws.specs.Tests.{pick, between, ladder}
+use Rattle.laws.proofs.Tests.{never, both-right, between-is}
 use Rattle.laws.proofs.Sums.{one-le}
 use Rattle.laws.proofs.Upto.{upto-keeps}
-use Rattle.limits.specs.Limits.{frameSlots, slotTimes, records, widest, leastTimeOut, mostTimeOut}
+use Rattle.limits.specs.Limits.{slotTimes, records, leastTimeOut, mostTimeOut}
 use Rattle.numbers.specs.declared.Refusal.the-variants.{NotOwn}
 use Rattle.ship.specs.declared.Station.{Station}
 use Rattle.ship.specs.Ship.{blank}
 use Rattle.plan.specs.declared.Plan.{Plan}
-use Rattle.plan.specs.Plan.{InRange}
 use Rattle.book.specs.declared.Watch.{Watch}
 use Rattle.book.specs.Book.{ours, bookOf, released}
 use Rattle.book.specs.Watch.{newWatch}
-use Rattle.book.proofs.Plans.{in-range}
 use Rattle.walks.specs.Out.{Out, out, Ends}
 use Rattle.register.specs.declared.Reply.{Reply}
 use Rattle.register.specs.declared.Answer.the-variants.{Planned, Begun}
@@ -38,21 +36,18 @@ use Rattle.hearing.specs.Booking.{fitOf, atOf, rowsOf, Noted, Booked, storedIn,
 use Rattle.hearing.proofs.Joined.{freed-booked}
 use Rattle.hearing.proofs.Hears.{hears-is}
 use Rattle.choosing.specs.declared.Wanted.{Wanted}
-use Rattle.choosing.specs.declared.Query.{Query}
 use Rattle.choosing.specs.declared.own.Owning.{Owning}
-use Rattle.choosing.specs.Choosing.{askFits, windowOf, pickedIn}
-use Rattle.choosing.specs.Scanning.{asked, turnsOf, scanned, judged}
+use Rattle.choosing.specs.Choosing.{askFits, windowOf}
+use Rattle.choosing.specs.Scanning.{asked, scanned, judged}
 use Rattle.choosing.specs.Owning.{owningOf, Owns, ownedOut}
 use Rattle.choosing.proofs.Meaning.{near, narrow, timed}
 use Rattle.choosing.proofs.Promised.{finds-the-choice}
 use Rattle.choosing.proofs.Choosing.{run-met, chooses-is}
-use Rattle.candidates.specs.declared.rounds.Best.{Best}
 use Rattle.calls.specs.declared.told.Todo.{Todo}
 use Rattle.calls.specs.declared.told.Todo.the-variants as todo
 use Rattle.calls.specs.declared.told.Case.{Case}
-use Rattle.calls.specs.declared.stages.Sums.{Sums}
 use Rattle.calls.specs.Calls.{planned, reports}
-use Rattle.calls.specs.Stages.{doneTodo, Sized, FitTodo, Fit, rewatched, passOut, older, isHear, hearingBy, hearingOf, Sought, announcedOut, enteredOut, isChoose, Asks, queryBy, queryOf, Draws, drawnOut, isNew, clearedOut, isRest, sumsIn, Replans, RestNeeds, restBy, reportAnswer, reportedReply, doneOut, agedOut, carriedOut}
+use Rattle.calls.specs.Stages.{doneTodo, Sized, FitTodo, Fit, passOut, older, isHear, hearingBy, hearingOf, Sought, announcedOut, enteredOut, isChoose, queryBy, queryOf, Draws, drawnOut, isNew, clearedOut, isRest, sumsIn, Replans, RestNeeds, restBy, reportAnswer, reportedReply, doneOut, agedOut, carriedOut}
 
 -- where two functions say what they leave, both one after the other leave this
 pub ends-at : {Y : Type 0} {o p : Out Y} {r : Y} {zs : List Station} {cs : List ℕ} → o ≡ p → Ends o r zs cs → Ends p r zs cs

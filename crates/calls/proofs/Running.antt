@@ -1,15 +1,13 @@
 -- The two loops of a call over the lent register, as the theorems of `walks` take them: slots that pass, and the sums of the records.
 -- Assumes nothing.
-use mathlib.Core.Path.{_≡_, refl, sym, ap, ap₂, _∙_}
-use mathlib.Core.Bool.{Bool, true, false}
+use mathlib.Core.Path.{_≡_, sym, ap, _∙_}
 use mathlib.Core.List.{List, [], _∷_}
-use Prim.Native.Nat.{ℕ, zero, suc, _+_, _*_, _%_, _≤_, _<_, _^_}
+use Prim.Native.Nat.{ℕ, suc, _+_, _*_, _%_, _≤_, _<_, _^_}
 use native.Mathlib.Omega.{arith}
 use borrow.Author.Tests.{ltb-true, ltb-false}
 use lib.Dec.{ltb}
 use lib.ListN.{length, getD}
 use Rattle.laws.specs.Counting.{one, sum}
-use Rattle.laws.specs.Loops.{upto}
 use Rattle.laws.proofs.Sums.{one-le}
 use Rattle.laws.proofs.Upto.{upto-none, upto-more}
 use Rattle.limits.specs.Limits.{slotTimes, records}

@@ -20,7 +20,7 @@ use mir.Facts.{toZ-ofZ}
 use lib.IntN.{ℤ}
 use lib.Signed.{mag}
 use types.Run.{OneOf, miss}
-use Rattle.laws.specs.Tests.{both, either, pick, ladder}
+use Rattle.laws.specs.Tests.{both, either, pick}
 use Rattle.laws.proofs.Tests.{was-false, was-true, both-no, both-yes, between-yes, between-low, between-high}
 use Rattle.limits.specs.Limits.{slotTimes, records, leastTimeOut, mostTimeOut}
 use Rattle.numbers.specs.declared.Refusal.{Refusal}
@@ -38,7 +38,6 @@ use Rattle.message.specs.declared.Message.{Message}
 use Rattle.message.specs.declared.Received.{Received}
 use Rattle.message.specs.declared.Received.the-variants.{Message as Got, Refused as NotRead}
 use Rattle.message.specs.Message.{readAnswer}
-use Rattle.register.specs.declared.Reply.{Reply}
 use Rattle.register.specs.declared.Answer.the-variants.{Passed, Set, Refused}
 use Rattle.reporting.specs.declared.Time.{Time}
 use Rattle.reporting.specs.Report.{timeFits}

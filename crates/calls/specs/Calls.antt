@@ -21,7 +21,6 @@ use Rattle.register.specs.Answers.{Answered, answered, no, sized}
 use Rattle.reporting.specs.declared.Time.{Time}
 use Rattle.reporting.specs.Report.{ownAt, timeOut, heardStations, subMessage, timeFits}
 use Rattle.hearing.specs.Hear.{hear}
-use Rattle.choosing.specs.declared.Wanted.{Wanted}
 use Rattle.choosing.specs.Choose.{choose}
 use Rattle.calls.specs.declared.Ask.{Ask}
 use Rattle.calls.specs.declared.What.{What}

@@ -3,23 +3,21 @@
 use Prim.Native.Nat.{ℕ, _+_, _-_, _*_, _%_, _≤_, _<_}
 use mathlib.Core.Path.{_≡_}
 use mathlib.Core.Bool.{Bool, true, false}
-use mathlib.Core.List.{List, [], _∷_, map}
+use mathlib.Core.List.{List, [], _∷_}
 use lib.Dec.{ltb}
 use lib.ListN.{length, replicate}
-use Rattle.laws.specs.Tests.{pick, ladder}
+use Rattle.laws.specs.Tests.{ladder}
 use Rattle.laws.specs.Counting.{one, sum}
 use Rattle.limits.specs.Limits.{frameSlots, slotTimes, records, widest, mostTimeOut}
 use Rattle.numbers.specs.declared.Refusal.the-variants.{NotOwn}
 use Rattle.message.specs.declared.Message.the-variants.{Other}
 use Rattle.ship.specs.declared.Station.{Station}
-use Rattle.ship.specs.Ship.{blank}
 use Rattle.plan.specs.declared.Plan.{Plan}
-use Rattle.plan.specs.Plan.{InRange}
 use Rattle.book.specs.declared.Watch.{Watch}
 use Rattle.book.specs.Book.{ours, putAt, released, Puts, Gives}
 use Rattle.book.specs.Planning.{planFits}
 use Rattle.book.specs.Watch.{newWatch}
-use Rattle.walks.specs.Out.{Out, out, Ends}
+use Rattle.walks.specs.Out.{Out, out}
 use Rattle.register.specs.declared.Turn.{Turn}
 use Rattle.register.specs.declared.Reply.{Reply}
 use Rattle.register.specs.declared.Answer.{Answer}

@@ -1,10 +1,10 @@
 -- What a call comes to, as far as the lengths, the bytes and the watch tell.
 -- Assumes nothing.
 use Prim.Native.Nat.{ℕ}
-use mathlib.Core.Bool.{Bool, true, false, not}
+use mathlib.Core.Bool.{Bool, true, false}
 use mathlib.Core.List.{List, [], _∷_}
 use lib.Dec.{eqb, ltb}
-use Rattle.laws.specs.Tests.{pick, both, either, between, ladder}
+use Rattle.laws.specs.Tests.{pick, both, either, ladder}
 use Rattle.limits.specs.Limits.{slotTimes, records}
 use Rattle.numbers.specs.declared.Refusal.the-variants.{OtherLength, BadSource, Repeated, OutOfRange, NoPlan}
 use Rattle.message.specs.declared.Received.{Received}

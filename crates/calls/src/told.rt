@@ -1,6 +1,5 @@
 // What a call comes to, as far as the lengths, the bytes and the watch tell: refused, or to be done. Promise: as specs/Told.antt says.
 ghost use mathlib.Core.Path.{_≡_};
-ghost use lib.ListN.{length};
 ghost use Rattle.calls.specs.Told.{fitting, heardTodo, tellingTodo, planTodo, ownTodo, chooseTodo, reportTodo, fitTodo, todoOf, toldOf, isReady, aloneReply};
 use crate::Ask;
 use crate::What;

@@ -1,8 +1,8 @@
 -- A place that becomes our own, as the code does it: whoever held it has lost it, and is held off.
 -- Assumes nothing.
-use mathlib.Core.Path.{_≡_, refl, sym, ap, ap₂, _∙_}
+use mathlib.Core.Path.{_≡_, refl, sym, ap, _∙_}
 use mathlib.Core.Bool.{Bool, true, false}
-use mathlib.Core.List.{List, [], _∷_, map}
+use mathlib.Core.List.{List, [], _∷_}
 use Prim.Native.Nat.{ℕ, zero, suc, _-_}
 use lib.ListN.{length, getD, set, length-map}
 use lib.Seq.{map-set-same}
@@ -10,8 +10,7 @@ use Rattle.laws.specs.Tests.{pick}
 use Rattle.limits.specs.Limits.{records, holdOff}
 use Rattle.ship.specs.declared.Station.{Station}
 use Rattle.ship.specs.Ship.{blank}
-use Rattle.book.specs.declared.Counts.{Counts}
-use Rattle.book.specs.Book.{Book, ours, isRecord, holder, bookOf, countsOf, talliesOf, putAt, Puts}
+use Rattle.book.specs.Book.{Book, ours, isRecord, countsOf, talliesOf, putAt, Puts}
 use Rattle.book.proofs.Once.{tallies-back, counts-back}
 use Rattle.register.specs.declared.Turn.{Turn}
 use Rattle.register.specs.State.{State, stateOf, talliesIn, bookIn, withTally, withHold, withCounts, tallied, settle, heldOff, owned}

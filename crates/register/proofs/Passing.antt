@@ -1,19 +1,19 @@
 -- Slots that pass: n slots, and then the hold-offs n less, are n times one slot.
 --     slid-is      one slot, as the code does it.        passes-slid      n of them
 -- Assumes nothing.
-use mathlib.Core.Path.{_≡_, refl, sym, ap, ap₂, _∙_}
+use mathlib.Core.Path.{_≡_, refl, ap, ap₂, _∙_}
 use mathlib.Core.List.{List, [], _∷_, map}
 use Prim.Native.Nat.{ℕ, zero, suc, _+_, _-_, _%_}
 use native.Mathlib.Omega.{arith}
-use lib.ListN.{length, length-map}
+use lib.ListN.{length}
 use Rattle.laws.specs.Loops.{upto}
 use Rattle.limits.specs.Limits.{slotTimes, records}
 use Rattle.ship.specs.declared.Station.{Station}
 use Rattle.book.specs.declared.Counts.{Counts}
 use Rattle.book.specs.declared.Watch.{Watch}
-use Rattle.book.specs.Book.{Book, ours, bookOf, countsOf, talliesOf, putAt, Puts}
+use Rattle.book.specs.Book.{Book, bookOf, countsOf, talliesOf, putAt, Puts}
 use Rattle.register.specs.declared.Turn.{Turn}
-use Rattle.register.specs.State.{State, stateOf, talliesIn, bookIn, withTally, withHold, withCounts, tallied, settle, movedOn, aged, passed, passes}
+use Rattle.register.specs.State.{State, stateOf, bookIn, withTally, withHold, withCounts, tallied, settle, movedOn, aged, passed, passes}
 use Rattle.register.specs.Register.{slidOne, slid}
 use Rattle.register.proofs.Settling.{both-followed, follows, followed-many, followed-bare, settle-is}
 

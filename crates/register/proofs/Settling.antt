@@ -3,12 +3,12 @@
 --     settle-is        a state whose records differ in tallies alone is the old one with its book written back
 --     bookIn-settle    the book that is written back is the book of the state
 -- Assumes nothing.
-use mathlib.Core.Path.{_≡_, refl, sym, ap, ap₂, subst, _∙_}
+use mathlib.Core.Path.{_≡_, refl, sym, ap, ap₂, _∙_}
 use mathlib.Core.Bool.{Bool, true, false}
 use mathlib.Core.List.{List, [], _∷_, map}
 use Prim.Native.Nat.{ℕ, zero, suc, _-_, _<_}
 use native.Mathlib.Omega.{arith}
-use borrow.Author.Tests.{eq-eqb, ne-eqb}
+use borrow.Author.Tests.{ne-eqb}
 use lib.ListN.{length, getD, set, length-map, length-set}
 use lib.Seq.{map-set-same, set-getD}
 use Rattle.laws.specs.Tests.{pick}
@@ -22,8 +22,8 @@ use Rattle.book.proofs.Once.{tallies-back, counts-back, parts-make}
 use Rattle.register.specs.declared.Turn.{Turn}
 use Rattle.register.specs.State.{State, stateOf, talliesIn, bookIn, withTally, withHold, withCounts, tallied, settle, heldOff}
 use Rattle.register.specs.Register.{recordAt, lessBy, moreBy, lostIn, wonIn}
-use Rattle.register.proofs.Holders.{record-is, its-record, no-record, inside}
-use Rattle.register.proofs.Followed.{less-none, less-held, less-other, more-none, more-one}
+use Rattle.register.proofs.Holders.{its-record, inside}
+use Rattle.register.proofs.Followed.{less-none, less-held, more-none}
 
 -- ---- lists
 

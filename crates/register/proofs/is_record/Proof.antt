@@ -3,7 +3,6 @@ use native.Mathlib.Omega.{arith}
 use borrow.Author.Tests.{lt-ltb}
 use Rattle.book.specs.Book.{isRecord}
 use Rattle.book.proofs.Following.{nobody-has-none}
-use borrow.Author.Needs.{needs}
 use Rattle.register.proofs.is_record.Statement.{statement}
 use Rattle.register.proofs.is_record.Tie as tie
 

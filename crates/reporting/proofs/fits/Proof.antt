@@ -3,7 +3,6 @@ use borrow.Author.Tests.{le-leb}
 use native.Mathlib.Omega.{arith}
 use Rattle.reporting.specs.Report.{timeFits}
 use Rattle.reporting.proofs.Answers.{late-hour}
-use borrow.Author.Needs.{needs}
 use Rattle.reporting.proofs.fits.Statement.{statement}
 use Rattle.reporting.proofs.fits.Tie as tie
 

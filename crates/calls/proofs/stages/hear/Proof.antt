@@ -1,6 +1,6 @@
 -- `calls::stages::hear` meets its contract: an instance of `Then.antt` of walks. Assumes nothing.
 use mathlib.Core.Path.{_≡_}
-use mathlib.Core.Bool.{true, false}
+use mathlib.Core.Bool.{true}
 use Rattle.walks.specs.Out.{Ends}
 use Rattle.hearing.specs.Booking.{Booked}
 use Rattle.hearing.proofs.Data.{BookingD, BookingL, ReplyD, ReplyL}

@@ -1,4 +1,3 @@
-use mathlib.Core.Path.{ap, sym, _∙_}
 use borrow.Author.Needs.{needs}
 use Rattle.calls.proofs.Telling.{heard-told, heard-not}
 use Rattle.calls.proofs.told.heard_todo.Statement.{statement}
