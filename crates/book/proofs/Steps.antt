@@ -1,12 +1,10 @@
--- A mark, a freeing and a pass, by what stands at the place.
+-- A mark and a freeing, by what stands at the place.
 -- Assumes nothing.
 use mathlib.Core.Path.{_≡_}
-use Prim.Native.Nat.{ℕ, _+_, _%_}
+use Prim.Native.Nat.{ℕ}
 use mathlib.Core.Bool.{true, false}
 use borrow.Author.Tests.{eq-eqb, ne-eqb}
-use Rattle.limits.specs.Limits.{slotTimes}
 use Rattle.book.specs.Book.{Book, ours, holder, kept, putAt, markAt, freeAt}
-use Rattle.book.specs.Pass.{Moment, passed}
 
 pub kept-own : (x : ℕ) → x ≡ ours → kept x ≡ true
 unfolding kept
@@ -32,9 +30,3 @@ module _ (b : Book) (at h : ℕ) where
   pub free-other : (holder b at ≡ h → ⊥) → b ≡ freeAt b at h
   unfolding freeAt
   free-other n = rw (ne-eqb _ _ n)
-
--- f is the book with the present slot freed
-pub passed-on : (m : Moment) (f : Book) → f ≡ putAt (m .book) (m .present % slotTimes) 0
-    → _≡_ {A = Moment} (record { book = f; present = (m .present % slotTimes + 1) % slotTimes }) (passed m)
-unfolding passed
-passed-on m f e = rw e

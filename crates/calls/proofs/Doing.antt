@@ -1,6 +1,5 @@
 -- What is asked of the public calls is what the code makes of it: refused by lengths, bytes and watch, or done on what is lent.
 --     done-is          what is asked is done as the tests of specs/Told.antt tell
---     fitting-is       the lengths' test of the code is that of the state
 --     passes-keep      slots that pass keep the lengths, the plan and our own ship
 --     called-is        the whole call.        alone-is     and where neither register nor book is needed
 --     told-lengths, told-fits      what the stages need, where they are needed
@@ -150,10 +149,6 @@ done-is New s bytes = begin-does s
 done-is Sum s bytes = sum-does s
 
 -- ---- lengths, and slots that pass
-
-pub fitting-is : (reg : List Station) (book : List ℕ) (w : Watch) → fitting (length reg) (length book) ≡ sized (stateOf reg book w)
-unfolding fitting sized
-fitting-is reg book w = refl
 
 -- t has the lengths, the plan and the ship of s
 pub record Alike (s t : State) : Type 0 where

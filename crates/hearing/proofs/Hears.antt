@@ -1,5 +1,4 @@
 -- A report that is heard, in the words of specs/Hear.antt: what the functions give, one after the other, is what the definition says.
---     noted-booked     what is noted meets what the runs need.        marks-booked     and still does after the first of them
 --     hears-is         find, noted, store, free_times and mark_times together
 -- Assumes nothing.
 use mathlib.Core.Path.{_≡_, sym, ap, _∙_}
@@ -13,7 +12,7 @@ use lib.ListN.{length, getD, set}
 use lib.Seq.{set-getD}
 use Rattle.laws.specs.Tests.{ladder}
 use Rattle.laws.proofs.Tests.{by-test}
-use Rattle.limits.specs.Limits.{slotTimes, records}
+use Rattle.limits.specs.Limits.{records}
 use Rattle.numbers.specs.declared.Refusal.{Refusal}
 use Rattle.numbers.specs.declared.Refusal.the-variants.{NoRecord, BeyondBook}
 use Rattle.ship.specs.declared.Station.{Station}
@@ -36,23 +35,10 @@ use Rattle.hearing.specs.declared.Fit.{Fit}
 use Rattle.hearing.specs.declared.Fit.the-variants.{Yes, Refused as NotFit}
 use Rattle.hearing.specs.declared.Booking.{Booking}
 use Rattle.hearing.specs.Hear.{recordFor, entered, stored, heard, marksOf, bookTests, hears}
-use Rattle.hearing.specs.Booking.{fitOf, atOf, rowsOf, fits, Noted, placeOf, holderOf, storedBy, storedIn, Booked, replyOf, freedOut}
+use Rattle.hearing.specs.Booking.{fitOf, atOf, rowsOf, fits, Noted, placeOf, holderOf, storedBy, storedIn, replyOf, freedOut}
 use Rattle.hearing.proofs.Entering.{place-at, stored-many}
 use Rattle.hearing.proofs.Noting.{booking, fit-none, fit-beyond, fit-yes}
-use Rattle.hearing.proofs.Joined.{freed-booked, goesOn, leaving, both-runs}
-
--- ---- what the runs need
-
-pub noted-booked : (q : Hearing) (fit : Fit) (at : ℕ) (rows : List Row) (b : Booking) (reg : List Station) (book : List ℕ) → length reg ≡ records
-    → length book ≡ slotTimes → Noted q fit at rows b → Booked (storedIn reg b) book b
-noted-booked q fit at rows b reg book many size n =
-    record { register = stored-many reg b ∙ many; size = size; inside = n .inside; frees = n .frees; marks = n .marks }
-
--- and what is left of it once everything is freed still does
-pub marks-booked : (q : Hearing) (fit : Fit) (at : ℕ) (rows : List Row) (b : Booking) (reg : List Station) (book : List ℕ) → length reg ≡ records
-    → length book ≡ slotTimes → Noted q fit at rows b
-    → Booked (freedOut b (storedIn reg b) book .reg) (freedOut b (storedIn reg b) book .book) (freedOut b (storedIn reg b) book .answer)
-marks-booked q fit at rows b reg book many size n = freed-booked b (storedIn reg b) book (noted-booked q fit at rows b reg book many size n)
+use Rattle.hearing.proofs.Joined.{goesOn, leaving, both-runs}
 
 -- what is noted, by its parts
 noted-is : (q : Hearing) (fit : Fit) (at : ℕ) (rows : List Row) (b : Booking) → Noted q fit at rows b → b ≡ booking q fit at rows (b .frees) (b .marks)

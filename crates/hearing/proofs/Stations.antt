@@ -1,10 +1,10 @@
--- The station of a message: what is told of it, its source, and its record: where a number stands first in a list, as a loop seeks it, and
--- that it is the lowest place.
+-- The station of a message: what is told of it, its source, and its record: where a number stands first in a list, and that it is the
+-- lowest place.
 -- Assumes nothing.
-use mathlib.Core.Path.{_≡_, sym, ap, _∙_}
+use mathlib.Core.Path.{_≡_, sym, _∙_}
 use mathlib.Core.Bool.{Bool, false}
 use mathlib.Core.List.{List, [], _∷_}
-use Prim.Native.Nat.{ℕ, zero, suc, _+_, _≤_, _<_}
+use Prim.Native.Nat.{ℕ, zero, suc, _≤_, _<_}
 use native.Mathlib.Decide.{ℕ-discrete}
 use native.Mathlib.Omega.{arith}
 use borrow.Author.Tests.{eq-eqb, ne-eqb, lt-ltb, le-ltb}
@@ -14,9 +14,8 @@ use mir.Val.{toZ, ofZ}
 use mir.Facts.{toZ-ofZ}
 use lib.IntN.{ℤ}
 use lib.Signed.{mag}
-use lib.ListN.{length, getD, drop}
+use lib.ListN.{length, getD}
 use Rattle.laws.proofs.Tests.{both-no, both-yes}
-use Rattle.laws.proofs.Lists.{next, done}
 use Rattle.message.specs.declared.state.State.{State}
 use Rattle.ship.specs.Ship.{fairSource}
 use Rattle.hearing.specs.declared.Telling.{Telling}
@@ -61,25 +60,6 @@ module _ (x y : ℕ) (l : List ℕ) where
   -- else one place later than in the rest
   later : (y ≡ x → ⊥) → indexOf x (y ∷ l) ≡ suc (indexOf x l)
   later n = simp (ne-eqb y x n)
-
--- as a loop seeks it: i elements gone through, and what is left still gives the place
-pub record Sought (x : ℕ) (xs : List ℕ) (i : ℕ) : Type 0 where
-  pub left : i + indexOf x (drop i xs) ≡ indexOf x xs
-
-pub sought-none : (x : ℕ) (xs : List ℕ) → Sought x xs 0
-sought-none x xs = record { left = omega arith }
-
-module _ (x : ℕ) (xs : List ℕ) (i : ℕ) (h : Sought x xs i) where
-  -- a turn: it stands at i, or the search goes on
-  pub found-at : i < length xs → getD xs i 0 ≡ x → i ≡ indexOf x xs
-  found-at p e = omega (arith, ap (indexOf x) (next xs i p), here x (getD xs i 0) (drop (i + 1) xs) e)
-
-  pub seek-on : i < length xs → (getD xs i 0 ≡ x → ⊥) → Sought x xs (i + 1)
-  seek-on p n = record { left = omega (arith, ap (indexOf x) (next xs i p), later x (getD xs i 0) (drop (i + 1) xs) n) }
-
-  -- the end: it stands nowhere
-  pub found-none : length xs ≤ i → i ≡ indexOf x xs
-  found-none p = omega (arith, ap (indexOf x) (done xs i p))
 
 -- ---- the record
 

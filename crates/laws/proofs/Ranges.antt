@@ -2,13 +2,13 @@
 -- Assumes nothing.
 use mathlib.Core.Path.{_≡_, refl, sym, ap, _∙_}
 use mathlib.Core.Bool.{Bool, true, false}
-use Prim.Native.Nat.{ℕ, zero, suc, _+_, _≤_, _<_, min}
+use Prim.Native.Nat.{ℕ, zero, suc, _+_, _≤_, _<_}
 use native.Mathlib.Decide.{ℕ-discrete}
 use native.Mathlib.Numerals.{add-one}
 use native.Mathlib.Omega.{arith}
-use Rattle.laws.specs.Tests.{both, either}
+use Rattle.laws.specs.Tests.{either}
 use Rattle.laws.specs.Counting.{one}
-use Rattle.laws.specs.Ranges.{howMany, some, every, least}
+use Rattle.laws.specs.Ranges.{howMany, some, least}
 use Rattle.laws.proofs.Tests.{never, by-test}
 use Rattle.laws.proofs.Sums.{one-le}
 
@@ -66,26 +66,8 @@ module _ (p : ℕ → Bool) where
 
 -- ---- the smallest value
 
--- no value before the first turn
-pub least-start : (t : ℕ) (f : ℕ → ℕ) → t ≡ least t f 0
-unfolding least
-least-start t f = refl
-
--- a turn keeps the smaller of the least so far and the next value
-pub least-more : (t : ℕ) (f : ℕ → ℕ) (i a b r : ℕ) → a ≡ least t f i → b ≡ f i → r ≡ min a b → r ≡ least t f (i + 1)
-unfolding least
-least-more t f i a b r e d h = omega (arith, ap (least t f) (add-one i))
-
 -- the least is not above the start
 pub least-le : (t : ℕ) (f : ℕ → ℕ) (n : ℕ) → least t f n ≤ t
 unfolding least
 least-le t f zero = omega arith
 least-le t f (suc n) = omega (arith, least-le t f n)
-
--- ---- every one
-
--- tests that agree hold alike for all
-pub every-ext : (p q : ℕ → Bool) (n : ℕ) → ((i : ℕ) → p i ≡ q i) → every p n ≡ every q n
-unfolding every
-every-ext p q zero e = refl
-every-ext p q (suc n) e = ap (λ (t : Bool). both t (p n)) (every-ext p q n e) ∙ ap (both (every q n)) (e n)

@@ -3,11 +3,9 @@
 use mathlib.Core.Path.{_≡_, sym, ap, _∙_}
 use mathlib.Core.Bool.{true, false}
 use mathlib.Core.List.{List}
-use Prim.Native.Nat.{ℕ, _-_, _/_, _%_, _≤_, _<_}
-use borrow.Author.Tests.{eq-eqb, ne-eqb, le-leb, lt-leb}
-use lib.Dec.{leb}
+use Prim.Native.Nat.{ℕ, _-_, _/_, _%_, _<_}
+use borrow.Author.Tests.{eq-eqb, ne-eqb, lt-leb}
 use lib.ListN.{getD}
-use Rattle.laws.proofs.Tests.{both-no}
 use Rattle.limits.specs.Limits.{frameSlots}
 use Rattle.numbers.specs.declared.Refusal.the-variants.{NotOwn}
 use Rattle.message.specs.declared.state.SubMessage.the-variants.{Offset, Time, Slot, Stations}
@@ -59,14 +57,6 @@ module _ (time : Hour) where
   pub late-hour : 23 < time .hour → timeFits time ≡ false
   unfolding timeFits
   late-hour l = rw (lt-leb (time .hour) 23 l)
-
-  pub late-minute : 59 < time .minute → timeFits time ≡ false
-  unfolding timeFits
-  late-minute l = rw (lt-leb (time .minute) 59 l) (both-no (leb (time .hour) 23))
-
-  pub right-time : time .hour ≤ 23 → time .minute ≤ 59 → timeFits time ≡ true
-  unfolding timeFits
-  right-time l k = rw (le-leb (time .hour) 23 l, le-leb (time .minute) 59 k)
 
 module _ (slots : List ℕ) (present at : ℕ) (e : at ≡ place present 0) where
   pub other-now : (getD slots at 0 ≡ ours → ⊥) → ownAt slots present 0 ≡ false
