@@ -36,47 +36,47 @@ use Rattle.choosing.specs.declared.Wanted.{Wanted}
 use Rattle.choosing.specs.declared.Query.{Query}
 use Rattle.choosing.specs.Choosing.{askFits}
 use Rattle.choosing.specs.Scanning.{asked}
-use Rattle.calls.specs.declared.told.Todo.{Todo}
-use Rattle.calls.specs.declared.told.Todo.the-variants as todo
+use Rattle.calls.specs.declared.told.Task.{Task}
+use Rattle.calls.specs.declared.told.Task.the-variants as task
 use Rattle.calls.specs.declared.told.Case.{Case}
 use Rattle.calls.specs.declared.stages.Sums.{Sums}
-use Rattle.calls.specs.Stages.{FitTodo, older, isHear, hearingBy, hearingOf, isChoose, noQuery, queryBy, queryOf, isNew, sumWith, Replans, reportedReply, Stays, restBy}
-use Rattle.calls.proofs.told.Todo.{the-type}
+use Rattle.calls.specs.Stages.{FitTask, older, isHear, hearingBy, hearingOf, isChoose, noQuery, queryBy, queryOf, isNew, sumWith, Replans, reportedReply, Stays, restBy}
+use Rattle.calls.proofs.told.Task.{the-type}
 
 -- ---- which arm of a match is taken
 
-pub not-hear : (t : Todo) → OneOf (0 ∷ 1 ∷ 3 ∷ 4 ∷ 5 ∷ 6 ∷ 7 ∷ 8 ∷ []) (tagOf the-type t) → false ≡ isHear t
-not-hear (todo.Refused r) o = refl
-not-hear todo.Nothing o = refl
-not-hear (todo.Hear x) o = absurd (miss (0 ∷ 1 ∷ 3 ∷ 4 ∷ 5 ∷ 6 ∷ 7 ∷ 8 ∷ []) 2 tt o)
-not-hear (todo.Plan p) o = refl
-not-hear (todo.Own s) o = refl
-not-hear (todo.Choose a) o = refl
-not-hear (todo.Report t) o = refl
-not-hear todo.New o = refl
-not-hear todo.Sum o = refl
+pub not-hear : (t : Task) → OneOf (0 ∷ 1 ∷ 3 ∷ 4 ∷ 5 ∷ 6 ∷ 7 ∷ 8 ∷ []) (tagOf the-type t) → false ≡ isHear t
+not-hear (task.Refused r) o = refl
+not-hear task.Nothing o = refl
+not-hear (task.Hear x) o = absurd (miss (0 ∷ 1 ∷ 3 ∷ 4 ∷ 5 ∷ 6 ∷ 7 ∷ 8 ∷ []) 2 tt o)
+not-hear (task.Plan p) o = refl
+not-hear (task.Own s) o = refl
+not-hear (task.Choose a) o = refl
+not-hear (task.Report t) o = refl
+not-hear task.New o = refl
+not-hear task.Sum o = refl
 
-pub not-choose : (t : Todo) → OneOf (0 ∷ 1 ∷ 2 ∷ 3 ∷ 4 ∷ 6 ∷ 7 ∷ 8 ∷ []) (tagOf the-type t) → false ≡ isChoose t
-not-choose (todo.Refused r) o = refl
-not-choose todo.Nothing o = refl
-not-choose (todo.Hear x) o = refl
-not-choose (todo.Plan p) o = refl
-not-choose (todo.Own s) o = refl
-not-choose (todo.Choose a) o = absurd (miss (0 ∷ 1 ∷ 2 ∷ 3 ∷ 4 ∷ 6 ∷ 7 ∷ 8 ∷ []) 5 tt o)
-not-choose (todo.Report t) o = refl
-not-choose todo.New o = refl
-not-choose todo.Sum o = refl
+pub not-choose : (t : Task) → OneOf (0 ∷ 1 ∷ 2 ∷ 3 ∷ 4 ∷ 6 ∷ 7 ∷ 8 ∷ []) (tagOf the-type t) → false ≡ isChoose t
+not-choose (task.Refused r) o = refl
+not-choose task.Nothing o = refl
+not-choose (task.Hear x) o = refl
+not-choose (task.Plan p) o = refl
+not-choose (task.Own s) o = refl
+not-choose (task.Choose a) o = absurd (miss (0 ∷ 1 ∷ 2 ∷ 3 ∷ 4 ∷ 6 ∷ 7 ∷ 8 ∷ []) 5 tt o)
+not-choose (task.Report t) o = refl
+not-choose task.New o = refl
+not-choose task.Sum o = refl
 
-pub not-new : (t : Todo) → OneOf (0 ∷ 1 ∷ 2 ∷ 3 ∷ 4 ∷ 5 ∷ 6 ∷ 8 ∷ []) (tagOf the-type t) → false ≡ isNew t
-not-new (todo.Refused r) o = refl
-not-new todo.Nothing o = refl
-not-new (todo.Hear x) o = refl
-not-new (todo.Plan p) o = refl
-not-new (todo.Own s) o = refl
-not-new (todo.Choose a) o = refl
-not-new (todo.Report t) o = refl
-not-new todo.New o = absurd (miss (0 ∷ 1 ∷ 2 ∷ 3 ∷ 4 ∷ 5 ∷ 6 ∷ 8 ∷ []) 7 tt o)
-not-new todo.Sum o = refl
+pub not-new : (t : Task) → OneOf (0 ∷ 1 ∷ 2 ∷ 3 ∷ 4 ∷ 5 ∷ 6 ∷ 8 ∷ []) (tagOf the-type t) → false ≡ isNew t
+not-new (task.Refused r) o = refl
+not-new task.Nothing o = refl
+not-new (task.Hear x) o = refl
+not-new (task.Plan p) o = refl
+not-new (task.Own s) o = refl
+not-new (task.Choose a) o = refl
+not-new (task.Report t) o = refl
+not-new task.New o = absurd (miss (0 ∷ 1 ∷ 2 ∷ 3 ∷ 4 ∷ 5 ∷ 6 ∷ 8 ∷ []) 7 tt o)
+not-new task.Sum o = refl
 
 -- ---- a hold-off that ends
 
@@ -86,33 +86,33 @@ older-ends s c l = let z : s .hold - c .passes ≡ 0 = omega arith in rw z
 
 -- ---- what is heard
 
-heard-by : (t : Todo) (w : Watch) (x : Telling) → t ≡ todo.Hear x → _≡_ {A = Hearing} (record { watch = w; telling = x }) (hearingBy t w)
+heard-by : (t : Task) (w : Watch) (x : Telling) → t ≡ task.Hear x → _≡_ {A = Hearing} (record { watch = w; telling = x }) (hearingBy t w)
 heard-by t w x e = rw e
 
-other-by : (t : Todo) (w : Watch) → false ≡ isHear t → _≡_ {A = Hearing} (record { watch = w; telling = tellingOf Other }) (hearingBy t w)
-other-by (todo.Refused r) w e = refl
-other-by todo.Nothing w e = refl
-other-by (todo.Hear x) w e = absurd (let z : _≡_ {A = ℕ} 0 1 = cc in omega arith)
-other-by (todo.Plan p) w e = refl
-other-by (todo.Own s) w e = refl
-other-by (todo.Choose a) w e = refl
-other-by (todo.Report t) w e = refl
-other-by todo.New w e = refl
-other-by todo.Sum w e = refl
+other-by : (t : Task) (w : Watch) → false ≡ isHear t → _≡_ {A = Hearing} (record { watch = w; telling = tellingOf Other }) (hearingBy t w)
+other-by (task.Refused r) w e = refl
+other-by task.Nothing w e = refl
+other-by (task.Hear x) w e = absurd (let z : _≡_ {A = ℕ} 0 1 = cc in omega arith)
+other-by (task.Plan p) w e = refl
+other-by (task.Own s) w e = refl
+other-by (task.Choose a) w e = refl
+other-by (task.Report t) w e = refl
+other-by task.New w e = refl
+other-by task.Sum w e = refl
 
 module _ (c : Case) (x : Telling) where
-  pub heard-of : c .todo ≡ todo.Hear x → _≡_ {A = Hearing} (record { watch = c .watch; telling = x }) (hearingOf c)
+  pub heard-of : c .task ≡ task.Hear x → _≡_ {A = Hearing} (record { watch = c .watch; telling = x }) (hearingOf c)
   unfolding hearingOf
-  heard-of e = heard-by (c .todo) (c .watch) x e
+  heard-of e = heard-by (c .task) (c .watch) x e
 
-  pub other-of : x ≡ tellingOf Other → false ≡ isHear (c .todo) → _≡_ {A = Hearing} (record { watch = c .watch; telling = x }) (hearingOf c)
+  pub other-of : x ≡ tellingOf Other → false ≡ isHear (c .task) → _≡_ {A = Hearing} (record { watch = c .watch; telling = x }) (hearingOf c)
   unfolding hearingOf
-  other-of f e = rw f (other-by (c .todo) (c .watch) e)
+  other-of f e = rw f (other-by (c .task) (c .watch) e)
 
 -- ---- what is asked for
 
 -- the plan and the window of a choice that fits
-fit-choose : (t : Todo) (p : Plan) (a : Wanted) → t ≡ todo.Choose a → FitTodo t p → (planFits (p .rate) (p .start) ≡ true) × (askFits p a ≡ true)
+fit-choose : (t : Task) (p : Plan) (a : Wanted) → t ≡ task.Choose a → FitTask t p → (planFits (p .rate) (p .start) ≡ true) × (askFits p a ≡ true)
 fit-choose t p a e h = rw e at h
 
 window-there : (p : Plan) (a : Wanted) → askFits p a ≡ true → (a .k < p .rate) × (a .timeout < mostTimeOut + 1)
@@ -122,32 +122,32 @@ window-there p a e =
     let r = between-is leastTimeOut mostTimeOut (a .timeout) (both-right (ltb (a .k) (p .rate)) (between leastTimeOut mostTimeOut (a .timeout)) e) in
     (ltb-true (a .k) (p .rate) f, omega (arith, r .1))
 
-pub fit-ask : (t : Todo) (p : Plan) (a : Wanted) → t ≡ todo.Choose a → FitTodo t p
+pub fit-ask : (t : Task) (p : Plan) (a : Wanted) → t ≡ task.Choose a → FitTask t p
     → InRange p × ((a .k < p .rate) × (a .timeout < mostTimeOut + 1))
 fit-ask t p a e h = let f = fit-choose t p a e h in (in-range p (f .0), window-there p a (f .1))
 
-query-by : (t : Todo) (book : List ℕ) (w : Watch) (a : Wanted) → t ≡ todo.Choose a → asked book w a ≡ queryBy t book w
+query-by : (t : Task) (book : List ℕ) (w : Watch) (a : Wanted) → t ≡ task.Choose a → asked book w a ≡ queryBy t book w
 query-by t book w a e = rw e
 
-none-by : (t : Todo) (book : List ℕ) (w : Watch) → false ≡ isChoose t → noQuery w ≡ queryBy t book w
-none-by (todo.Refused r) book w e = refl
-none-by todo.Nothing book w e = refl
-none-by (todo.Hear x) book w e = refl
-none-by (todo.Plan p) book w e = refl
-none-by (todo.Own s) book w e = refl
-none-by (todo.Choose a) book w e = absurd (let z : _≡_ {A = ℕ} 0 1 = cc in omega arith)
-none-by (todo.Report t) book w e = refl
-none-by todo.New book w e = refl
-none-by todo.Sum book w e = refl
+none-by : (t : Task) (book : List ℕ) (w : Watch) → false ≡ isChoose t → noQuery w ≡ queryBy t book w
+none-by (task.Refused r) book w e = refl
+none-by task.Nothing book w e = refl
+none-by (task.Hear x) book w e = refl
+none-by (task.Plan p) book w e = refl
+none-by (task.Own s) book w e = refl
+none-by (task.Choose a) book w e = absurd (let z : _≡_ {A = ℕ} 0 1 = cc in omega arith)
+none-by (task.Report t) book w e = refl
+none-by task.New book w e = refl
+none-by task.Sum book w e = refl
 
 module _ (book : List ℕ) (c : Case) where
-  pub query-one : (q : Query) (a : Wanted) → q ≡ asked book (c .watch) a → c .todo ≡ todo.Choose a → q ≡ queryOf book c
+  pub query-one : (q : Query) (a : Wanted) → q ≡ asked book (c .watch) a → c .task ≡ task.Choose a → q ≡ queryOf book c
   unfolding queryOf
-  query-one q a f e = f ∙ query-by (c .todo) book (c .watch) a e
+  query-one q a f e = f ∙ query-by (c .task) book (c .watch) a e
 
-  pub query-none : false ≡ isChoose (c .todo) → noQuery (c .watch) ≡ queryOf book c
+  pub query-none : false ≡ isChoose (c .task) → noQuery (c .watch) ≡ queryOf book c
   unfolding queryOf
-  query-none e = none-by (c .todo) book (c .watch) e
+  query-none e = none-by (c .task) book (c .watch) e
 
 -- ---- sums
 
@@ -177,47 +177,47 @@ module _ (book : List ℕ) (w : Watch) (n : Sums) (t : Time) (r : Reply) (told :
 
 -- ---- the rest
 
-pub fit-report : (t : Todo) (p : Plan) (x : Time) → t ≡ todo.Report x → FitTodo t p → InRange p
+pub fit-report : (t : Task) (p : Plan) (x : Time) → t ≡ task.Report x → FitTask t p → InRange p
 fit-report t p x e h = in-range p (rw e at h)
 
-module _ (t : Todo) (c : Case) (n : Sums) (book : List ℕ) (r : Reply) (book′ : List ℕ) where
-  pub rest-refused : (x : Refusal) → t ≡ todo.Refused x → Stays (c .watch) (answer.Refused x) book r book′ → restBy t c n book r book′
+module _ (t : Task) (c : Case) (n : Sums) (book : List ℕ) (r : Reply) (book′ : List ℕ) where
+  pub rest-refused : (x : Refusal) → t ≡ task.Refused x → Stays (c .watch) (answer.Refused x) book r book′ → restBy t c n book r book′
   rest-refused x e h = rw e h
 
-  pub rest-plan : (p : Plan) → t ≡ todo.Plan p → Replans book (c .watch) p r book′ → restBy t c n book r book′
+  pub rest-plan : (p : Plan) → t ≡ task.Plan p → Replans book (c .watch) p r book′ → restBy t c n book r book′
   rest-plan p e h = rw e h
 
-  pub rest-own : (o : Ship) → t ≡ todo.Own o
+  pub rest-own : (o : Ship) → t ≡ task.Own o
       → Stays (record { present = c .watch .present; channel = c .watch .channel; ship = o }) answer.Set book r book′ → restBy t c n book r book′
   rest-own o e h = rw e h
 
-  pub rest-report : (x : Time) → t ≡ todo.Report x → (r ≡ reportedReply book (c .watch) n x) × (book′ ≡ book) → restBy t c n book r book′
+  pub rest-report : (x : Time) → t ≡ task.Report x → (r ≡ reportedReply book (c .watch) n x) × (book′ ≡ book) → restBy t c n book r book′
   rest-report x e h = rw e h
 
   pub rest-sum : OneOf (8 ∷ []) (tagOf the-type t) → Stays (c .watch) (answer.Sum (n .total)) book r book′ → restBy t c n book r book′
   rest-sum o h = at-sum t o
     where
-      at-sum : (t : Todo) → OneOf (8 ∷ []) (tagOf the-type t) → restBy t c n book r book′
-      at-sum (todo.Refused x) o = absurd (miss (8 ∷ []) 0 tt o)
-      at-sum todo.Nothing o = absurd (miss (8 ∷ []) 1 tt o)
-      at-sum (todo.Hear x) o = absurd (miss (8 ∷ []) 2 tt o)
-      at-sum (todo.Plan p) o = absurd (miss (8 ∷ []) 3 tt o)
-      at-sum (todo.Own s) o = absurd (miss (8 ∷ []) 4 tt o)
-      at-sum (todo.Choose a) o = absurd (miss (8 ∷ []) 5 tt o)
-      at-sum (todo.Report x) o = absurd (miss (8 ∷ []) 6 tt o)
-      at-sum todo.New o = absurd (miss (8 ∷ []) 7 tt o)
-      at-sum todo.Sum o = h
+      at-sum : (t : Task) → OneOf (8 ∷ []) (tagOf the-type t) → restBy t c n book r book′
+      at-sum (task.Refused x) o = absurd (miss (8 ∷ []) 0 tt o)
+      at-sum task.Nothing o = absurd (miss (8 ∷ []) 1 tt o)
+      at-sum (task.Hear x) o = absurd (miss (8 ∷ []) 2 tt o)
+      at-sum (task.Plan p) o = absurd (miss (8 ∷ []) 3 tt o)
+      at-sum (task.Own s) o = absurd (miss (8 ∷ []) 4 tt o)
+      at-sum (task.Choose a) o = absurd (miss (8 ∷ []) 5 tt o)
+      at-sum (task.Report x) o = absurd (miss (8 ∷ []) 6 tt o)
+      at-sum task.New o = absurd (miss (8 ∷ []) 7 tt o)
+      at-sum task.Sum o = h
 
   pub rest-other : OneOf (1 ∷ 2 ∷ 5 ∷ 7 ∷ []) (tagOf the-type t) → Stays (c .watch) answer.Passed book r book′ → restBy t c n book r book′
   rest-other o h = at-other t o
     where
-      at-other : (t : Todo) → OneOf (1 ∷ 2 ∷ 5 ∷ 7 ∷ []) (tagOf the-type t) → restBy t c n book r book′
-      at-other (todo.Refused x) o = absurd (miss (1 ∷ 2 ∷ 5 ∷ 7 ∷ []) 0 tt o)
-      at-other todo.Nothing o = h
-      at-other (todo.Hear x) o = h
-      at-other (todo.Plan p) o = absurd (miss (1 ∷ 2 ∷ 5 ∷ 7 ∷ []) 3 tt o)
-      at-other (todo.Own s) o = absurd (miss (1 ∷ 2 ∷ 5 ∷ 7 ∷ []) 4 tt o)
-      at-other (todo.Choose a) o = h
-      at-other (todo.Report x) o = absurd (miss (1 ∷ 2 ∷ 5 ∷ 7 ∷ []) 6 tt o)
-      at-other todo.New o = h
-      at-other todo.Sum o = absurd (miss (1 ∷ 2 ∷ 5 ∷ 7 ∷ []) 8 tt o)
+      at-other : (t : Task) → OneOf (1 ∷ 2 ∷ 5 ∷ 7 ∷ []) (tagOf the-type t) → restBy t c n book r book′
+      at-other (task.Refused x) o = absurd (miss (1 ∷ 2 ∷ 5 ∷ 7 ∷ []) 0 tt o)
+      at-other task.Nothing o = h
+      at-other (task.Hear x) o = h
+      at-other (task.Plan p) o = absurd (miss (1 ∷ 2 ∷ 5 ∷ 7 ∷ []) 3 tt o)
+      at-other (task.Own s) o = absurd (miss (1 ∷ 2 ∷ 5 ∷ 7 ∷ []) 4 tt o)
+      at-other (task.Choose a) o = h
+      at-other (task.Report x) o = absurd (miss (1 ∷ 2 ∷ 5 ∷ 7 ∷ []) 6 tt o)
+      at-other task.New o = h
+      at-other task.Sum o = absurd (miss (1 ∷ 2 ∷ 5 ∷ 7 ∷ []) 8 tt o)

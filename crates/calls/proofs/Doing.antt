@@ -45,29 +45,29 @@ use Rattle.choosing.specs.Choose.{chooseTests, choose}
 use Rattle.calls.specs.declared.Ask.{Ask}
 use Rattle.calls.specs.declared.What.{What}
 use Rattle.calls.specs.declared.What.the-variants.{Nothing, Hear, Plan as ToPlan, Own, Choose, Report, New, Sum}
-use Rattle.calls.specs.declared.told.Todo.{Todo}
-use Rattle.calls.specs.declared.told.Todo.the-variants as todo
+use Rattle.calls.specs.declared.told.Task.{Task}
+use Rattle.calls.specs.declared.told.Task.the-variants as task
 use Rattle.calls.specs.declared.told.Case.{Case}
 use Rattle.calls.specs.Calls.{pass, plan, own, report, begin, sum, done, called}
 use Rattle.calls.specs.Told.{
   fitting,
-  fitTodo,
-  tellingTodo,
-  receivedTodo,
-  heardTodo,
-  planTodo,
-  ownedTodo,
-  ownTodo,
-  chooseTodo,
-  reportTodo,
-  todoOf,
+  fitTask,
+  tellingTask,
+  receivedTask,
+  heardTask,
+  planTask,
+  ownedTask,
+  ownTask,
+  chooseTask,
+  reportTask,
+  taskOf,
   toldOf,
   needsThem,
   isReady,
   replyTo,
   aloneReply,
 }
-use Rattle.calls.specs.Stages.{doneTodo, Sized, FitTodo, Fit, carriedOut}
+use Rattle.calls.specs.Stages.{doneTask, Sized, FitTask, Fit, carriedOut}
 
 -- ---- what is asked
 
@@ -79,66 +79,66 @@ through f ((false, y) ∷ ts) x = refl
 
 module _ (s : State) where
   -- what is done, by what is left to be done
-  abbrev does : Todo → Answered
-  does t = doneTodo t s
+  abbrev does : Task → Answered
+  does t = doneTask t s
 
-  fit-does : (t : Todo) → ladder ((sized s, no s OtherLength) ∷ []) (does t) ≡ does (fitTodo (sized s) t)
-  unfolding doneTodo fitTodo
-  fit-does t = sym (through does ((sized s, todo.Refused OtherLength) ∷ []) t)
+  fit-does : (t : Task) → ladder ((sized s, no s OtherLength) ∷ []) (does t) ≡ does (fitTask (sized s) t)
+  unfolding doneTask fitTask
+  fit-does t = sym (through does ((sized s, task.Refused OtherLength) ∷ []) t)
 
-  pass-does : pass s ≡ does (fitTodo (sized s) todo.Nothing)
-  unfolding doneTodo pass
-  pass-does = fit-does todo.Nothing
+  pass-does : pass s ≡ does (fitTask (sized s) task.Nothing)
+  unfolding doneTask pass
+  pass-does = fit-does task.Nothing
 
-  begin-does : begin s ≡ does (fitTodo (sized s) todo.New)
-  unfolding doneTodo begin
-  begin-does = fit-does todo.New
+  begin-does : begin s ≡ does (fitTask (sized s) task.New)
+  unfolding doneTask begin
+  begin-does = fit-does task.New
 
-  sum-does : sum s ≡ does (fitTodo (sized s) todo.Sum)
-  unfolding doneTodo sum
-  sum-does = fit-does todo.Sum
+  sum-does : sum s ≡ does (fitTask (sized s) task.Sum)
+  unfolding doneTask sum
+  sum-does = fit-does task.Sum
 
-  plan-does : (p : Plans) → plan s p ≡ does (planTodo (sized s) p)
-  unfolding doneTodo plan planTodo
+  plan-does : (p : Plans) → plan s p ≡ does (planTask (sized s) p)
+  unfolding doneTask plan planTask
   plan-does p =
-      sym (through does ((sized s, todo.Refused OtherLength) ∷ (planFits (p .rate) (p .start), todo.Refused OutOfRange) ∷ []) (todo.Plan p))
+      sym (through does ((sized s, task.Refused OtherLength) ∷ (planFits (p .rate) (p .start), task.Refused OutOfRange) ∷ []) (task.Plan p))
 
-  own-does : (o : Ship) → own s o ≡ does (ownTodo o)
-  unfolding doneTodo own ownTodo ownAnswer sourceTests
-  own-does o = sym (through (λ r. does (ownedTodo r)) (sourceTests (o .source) (o .latitude) (o .longitude)) (Owns o))
+  own-does : (o : Ship) → own s o ≡ does (ownTask o)
+  unfolding doneTask own ownTask ownAnswer sourceTests
+  own-does o = sym (through (λ r. does (ownedTask r)) (sourceTests (o .source) (o .latitude) (o .longitude)) (Owns o))
 
-  choose-does : (a : Wanted) → choose s a ≡ does (chooseTodo (sized s) (s .watch .channel .plan) a)
-  unfolding doneTodo choose chooseTests chooseTodo
+  choose-does : (a : Wanted) → choose s a ≡ does (chooseTask (sized s) (s .watch .channel .plan) a)
+  unfolding doneTask choose chooseTests chooseTask
   choose-does a =
       let p = s .watch .channel .plan in
-      sym (through does ((sized s, todo.Refused OtherLength) ∷ (planFits (p .rate) (p .start), todo.Refused NoPlan) ∷ (askFits p a, todo.Refused OutOfRange) ∷ [])
-      (todo.Choose a))
+      sym (through does ((sized s, task.Refused OtherLength) ∷ (planFits (p .rate) (p .start), task.Refused NoPlan) ∷ (askFits p a, task.Refused OutOfRange) ∷ [])
+      (task.Choose a))
 
-  report-does : (t : Time) → report s t ≡ does (reportTodo (sized s) (s .watch .channel .plan) t)
-  unfolding doneTodo report reportTodo
+  report-does : (t : Time) → report s t ≡ does (reportTask (sized s) (s .watch .channel .plan) t)
+  unfolding doneTask report reportTask
   report-does t =
       let p = s .watch .channel .plan in
-      sym (through does ((sized s, todo.Refused OtherLength) ∷ (planFits (p .rate) (p .start), todo.Refused NoPlan) ∷ (timeFits t, todo.Refused OutOfRange) ∷ [])
-      (todo.Report t))
+      sym (through does ((sized s, task.Refused OtherLength) ∷ (planFits (p .rate) (p .start), task.Refused NoPlan) ∷ (timeFits t, task.Refused OutOfRange) ∷ [])
+      (task.Report t))
 
   -- a message that could be read, and what its reading comes to
-  telling-does : (x : Heard) → ladder ((sized s, no s OtherLength) ∷ (fairOther (x .source) (s .watch .ship .source), no s BadSource) ∷ (eqb (x .repeat) 0, no s Repeated) ∷ []) (does (todo.Hear x))
-      ≡ does (tellingTodo (sized s) (s .watch .ship .source) x)
-  unfolding doneTodo tellingTodo
+  telling-does : (x : Heard) → ladder ((sized s, no s OtherLength) ∷ (fairOther (x .source) (s .watch .ship .source), no s BadSource) ∷ (eqb (x .repeat) 0, no s Repeated) ∷ []) (does (task.Hear x))
+      ≡ does (tellingTask (sized s) (s .watch .ship .source) x)
+  unfolding doneTask tellingTask
   telling-does x =
-      sym (through does ((sized s, todo.Refused OtherLength) ∷ (fairOther (x .source) (s .watch .ship .source), todo.Refused BadSource) ∷ (eqb (x .repeat) 0, todo.Refused Repeated) ∷ [])
-      (todo.Hear x))
+      sym (through does ((sized s, task.Refused OtherLength) ∷ (fairOther (x .source) (s .watch .ship .source), task.Refused BadSource) ∷ (eqb (x .repeat) 0, task.Refused Repeated) ∷ [])
+      (task.Hear x))
 
   abbrev reads : Received → Answered
-  reads r = does (receivedTodo (sized s) (s .watch .ship .source) r)
+  reads r = does (receivedTask (sized s) (s .watch .ship .source) r)
 
-  hear-does : (bytes : List ℕ) → hear s bytes ≡ does (heardTodo (sized s) (s .watch .ship .source) bytes)
-  unfolding doneTodo hear hearTests heardTodo readAnswer readTests
+  hear-does : (bytes : List ℕ) → hear s bytes ≡ does (heardTask (sized s) (s .watch .ship .source) bytes)
+  unfolding doneTask hear hearTests heardTask readAnswer readTests
   hear-does bytes =
       let ts : List (Bool × Answered) = map (λ (t : Bool × Received). (t .0, reads (t .1))) (readTests bytes) in
       ap (ladder ts) (telling-does (tellingIn bytes)) ∙ sym (through reads (readTests bytes) (Got (messageOf bytes)))
 
-pub done-is : (q : What) (s : State) (bytes : List ℕ) → done q s bytes ≡ doneTodo (todoOf (sized s) (s .watch) bytes q) s
+pub done-is : (q : What) (s : State) (bytes : List ℕ) → done q s bytes ≡ doneTask (taskOf (sized s) (s .watch) bytes q) s
 done-is Nothing s bytes = pass-does s
 done-is Hear s bytes = hear-does s bytes
 done-is (ToPlan p) s bytes = plan-does s p
@@ -183,15 +183,15 @@ unfolding sized
 sized-alike s t a = rw (a .register, a .size)
 
 -- and what is asked comes to the same
-pub todo-alike : (s t : State) → Alike s t → (fits : Bool) (bytes : List ℕ) (q : What) → todoOf fits (t .watch) bytes q ≡ todoOf fits (s .watch) bytes q
-todo-alike s t a fits bytes Nothing = refl
-todo-alike s t a fits bytes Hear = ap (λ (o : Ship). heardTodo fits (o .source) bytes) (a .ship)
-todo-alike s t a fits bytes (ToPlan p) = refl
-todo-alike s t a fits bytes (Own o) = refl
-todo-alike s t a fits bytes (Choose x) = ap (λ (p : Plans). chooseTodo fits p x) (a .plan)
-todo-alike s t a fits bytes (Report x) = ap (λ (p : Plans). reportTodo fits p x) (a .plan)
-todo-alike s t a fits bytes New = refl
-todo-alike s t a fits bytes Sum = refl
+pub task-alike : (s t : State) → Alike s t → (fits : Bool) (bytes : List ℕ) (q : What) → taskOf fits (t .watch) bytes q ≡ taskOf fits (s .watch) bytes q
+task-alike s t a fits bytes Nothing = refl
+task-alike s t a fits bytes Hear = ap (λ (o : Ship). heardTask fits (o .source) bytes) (a .ship)
+task-alike s t a fits bytes (ToPlan p) = refl
+task-alike s t a fits bytes (Own o) = refl
+task-alike s t a fits bytes (Choose x) = ap (λ (p : Plans). chooseTask fits p x) (a .plan)
+task-alike s t a fits bytes (Report x) = ap (λ (p : Plans). reportTask fits p x) (a .plan)
+task-alike s t a fits bytes New = refl
+task-alike s t a fits bytes Sum = refl
 
 pub passes-none : (s : State) → passes s 0 ≡ s
 unfolding upto
@@ -200,19 +200,19 @@ passes-none s = refl
 -- ---- the whole call
 
 -- what is done once the slots have passed
-done-after : (s : State) (n : ℕ) (bytes : List ℕ) (q : What) → done q (passes s n) bytes ≡ doneTodo (todoOf (sized s) (s .watch) bytes q) (passes s n)
+done-after : (s : State) (n : ℕ) (bytes : List ℕ) (q : What) → done q (passes s n) bytes ≡ doneTask (taskOf (sized s) (s .watch) bytes q) (passes s n)
 done-after s n bytes q =
     let t = passes s n in
     let a = passes-keep s n in
-    done-is q t bytes ∙ ap (λ (x : Todo). doneTodo x t) (ap (λ (b : Bool). todoOf b (t .watch) bytes q) (sized-alike s t a) ∙ todo-alike s t a (sized s) bytes q)
+    done-is q t bytes ∙ ap (λ (x : Task). doneTask x t) (ap (λ (b : Bool). taskOf b (t .watch) bytes q) (sized-alike s t a) ∙ task-alike s t a (sized s) bytes q)
 
 module _ (reg : List Station) (book : List ℕ) where
   -- a case that is carried out
   abbrev carried : Case → Answered
-  carried c = doneTodo (c .todo) (passes (stateOf reg book (c .watch)) (c .passes))
+  carried c = doneTask (c .task) (passes (stateOf reg book (c .watch)) (c .passes))
 
-  none-is : (w : Watch) → no (stateOf reg book w) OtherLength ≡ doneTodo (todo.Refused OtherLength) (passes (stateOf reg book w) 0)
-  unfolding doneTodo
+  none-is : (w : Watch) → no (stateOf reg book w) OtherLength ≡ doneTask (task.Refused OtherLength) (passes (stateOf reg book w) 0)
+  unfolding doneTask
   none-is w = ap (λ (t : State). no t OtherLength) (sym (passes-none (stateOf reg book w)))
 
   module _ (bytes : List ℕ) (x : Ask) where
@@ -223,34 +223,34 @@ module _ (reg : List Station) (book : List ℕ) where
         let b = either (eqb (x .passes) 0) (sized s) in
         ap₂ (pick b) (done-after s (x .passes) bytes (x .what)) (none-is (x .watch))
         ∙ sym (pick-of carried b
-        (record { watch = x .watch; passes = x .passes; todo = todoOf (sized s) (x .watch) bytes (x .what) })
-        (record { watch = x .watch; passes = 0; todo = todo.Refused OtherLength }))
+        (record { watch = x .watch; passes = x .passes; task = taskOf (sized s) (x .watch) bytes (x .what) })
+        (record { watch = x .watch; passes = 0; task = task.Refused OtherLength }))
 
     pub called-is : outOf (called (stateOf reg book (x .watch)) (x .passes) bytes (x .what)) ≡ carriedOut (toldOf (length reg) (length book) bytes x) reg book
     called-is = ap outOf called-carried
 
   -- ---- where neither register nor book is needed
 
-  alone-by : (t : Todo) (w : Watch) → needsThem t ≡ false → out (replyTo t w) reg book ≡ outOf (doneTodo t (stateOf reg book w))
-  unfolding doneTodo
-  alone-by (todo.Refused r) w e = refl
-  alone-by todo.Nothing w e = never (sym e)
-  alone-by (todo.Hear x) w e = never (sym e)
-  alone-by (todo.Plan p) w e = never (sym e)
-  alone-by (todo.Own o) w e = refl
-  alone-by (todo.Choose a) w e = never (sym e)
-  alone-by (todo.Report t) w e = never (sym e)
-  alone-by todo.New w e = never (sym e)
-  alone-by todo.Sum w e = never (sym e)
+  alone-by : (t : Task) (w : Watch) → needsThem t ≡ false → out (replyTo t w) reg book ≡ outOf (doneTask t (stateOf reg book w))
+  unfolding doneTask
+  alone-by (task.Refused r) w e = refl
+  alone-by task.Nothing w e = never (sym e)
+  alone-by (task.Hear x) w e = never (sym e)
+  alone-by (task.Plan p) w e = never (sym e)
+  alone-by (task.Own o) w e = refl
+  alone-by (task.Choose a) w e = never (sym e)
+  alone-by (task.Report t) w e = never (sym e)
+  alone-by task.New w e = never (sym e)
+  alone-by task.Sum w e = never (sym e)
 
   pub alone-is : (c : Case) → isReady c ≡ false → out (aloneReply c) reg book ≡ carriedOut c reg book
   unfolding isReady aloneReply
   alone-is c e =
       let s = stateOf reg book (c .watch) in
-      let none : c .passes ≡ 0 = omega (arith, ltb-false 0 (c .passes) (either-no-left (ltb 0 (c .passes)) (needsThem (c .todo)) e)) in
+      let none : c .passes ≡ 0 = omega (arith, ltb-false 0 (c .passes) (either-no-left (ltb 0 (c .passes)) (needsThem (c .task)) e)) in
       let there : passes s (c .passes) ≡ s = ap (passes s) none ∙ passes-none s in
-      alone-by (c .todo) (c .watch) (either-no-right (ltb 0 (c .passes)) (needsThem (c .todo)) e)
-      ∙ sym (ap (λ (t : State). outOf (doneTodo (c .todo) t)) there)
+      alone-by (c .task) (c .watch) (either-no-right (ltb 0 (c .passes)) (needsThem (c .task)) e)
+      ∙ sym (ap (λ (t : State). outOf (doneTask (c .task) t)) there)
     where
       either-no-left : (a b : Bool) → either a b ≡ false → a ≡ false
       either-no-left true b e = e
@@ -263,18 +263,18 @@ module _ (reg : List Station) (book : List ℕ) where
 -- ---- what the stages need
 
 -- where the lengths are other ones nothing needs them
-not-needed : (w : Watch) (bytes : List ℕ) (q : What) → needsThem (todoOf false w bytes q) ≡ false
-unfolding fitTodo heardTodo tellingTodo planTodo ownTodo chooseTodo reportTodo
+not-needed : (w : Watch) (bytes : List ℕ) (q : What) → needsThem (taskOf false w bytes q) ≡ false
+unfolding fitTask heardTask tellingTask planTask ownTask chooseTask reportTask
 not-needed w bytes Nothing = refl
 not-needed w bytes Hear = by (readAnswer bytes)
   where
-    by : (r : Received) → needsThem (receivedTodo false (w .ship .source) r) ≡ false
+    by : (r : Received) → needsThem (receivedTask false (w .ship .source) r) ≡ false
     by (Got m) = refl
     by (NotRead r) = refl
 not-needed w bytes (ToPlan p) = refl
 not-needed w bytes (Own o) = by (ownAnswer (o .source) (o .latitude) (o .longitude))
   where
-    by : (r : Owned) → needsThem (ownedTodo r) ≡ false
+    by : (r : Owned) → needsThem (ownedTask r) ≡ false
     by (Owns t) = refl
     by (NotOwned r) = refl
 not-needed w bytes (Choose a) = refl
@@ -283,49 +283,49 @@ not-needed w bytes New = refl
 not-needed w bytes Sum = refl
 
 -- a choice and a report are left to be done only where their tests hold
-fits-todo : (fits : Bool) (w : Watch) (bytes : List ℕ) (q : What) → FitTodo (todoOf fits w bytes q) (w .channel .plan)
-unfolding fitTodo heardTodo tellingTodo planTodo ownTodo chooseTodo reportTodo
-fits-todo fits w bytes Nothing = pick-has (λ (t : Todo). FitTodo t (w .channel .plan)) fits todo.Nothing (todo.Refused OtherLength) tt tt
-fits-todo fits w bytes Hear = by (readAnswer bytes)
+fits-task : (fits : Bool) (w : Watch) (bytes : List ℕ) (q : What) → FitTask (taskOf fits w bytes q) (w .channel .plan)
+unfolding fitTask heardTask tellingTask planTask ownTask chooseTask reportTask
+fits-task fits w bytes Nothing = pick-has (λ (t : Task). FitTask t (w .channel .plan)) fits task.Nothing (task.Refused OtherLength) tt tt
+fits-task fits w bytes Hear = by (readAnswer bytes)
   where
-    told : (x : Heard) (a b c : Bool) → FitTodo (ladder ((a, todo.Refused OtherLength) ∷ (b, todo.Refused BadSource) ∷ (c, todo.Refused Repeated) ∷ []) (todo.Hear x)) (w .channel .plan)
+    told : (x : Heard) (a b c : Bool) → FitTask (ladder ((a, task.Refused OtherLength) ∷ (b, task.Refused BadSource) ∷ (c, task.Refused Repeated) ∷ []) (task.Hear x)) (w .channel .plan)
     told x false b c = tt
     told x true false c = tt
     told x true true false = tt
     told x true true true = tt
 
-    by : (r : Received) → FitTodo (receivedTodo fits (w .ship .source) r) (w .channel .plan)
+    by : (r : Received) → FitTask (receivedTask fits (w .ship .source) r) (w .channel .plan)
     by (Got m) = told (tellingOf m) fits (fairOther (tellingOf m .source) (w .ship .source)) (eqb (tellingOf m .repeat) 0)
     by (NotRead r) = tt
-fits-todo fits w bytes (ToPlan p) = by fits (planFits (p .rate) (p .start))
+fits-task fits w bytes (ToPlan p) = by fits (planFits (p .rate) (p .start))
   where
-    by : (a b : Bool) → FitTodo (ladder ((a, todo.Refused OtherLength) ∷ (b, todo.Refused OutOfRange) ∷ []) (todo.Plan p)) (w .channel .plan)
+    by : (a b : Bool) → FitTask (ladder ((a, task.Refused OtherLength) ∷ (b, task.Refused OutOfRange) ∷ []) (task.Plan p)) (w .channel .plan)
     by false b = tt
     by true false = tt
     by true true = tt
-fits-todo fits w bytes (Own o) = by (ownAnswer (o .source) (o .latitude) (o .longitude))
+fits-task fits w bytes (Own o) = by (ownAnswer (o .source) (o .latitude) (o .longitude))
   where
-    by : (r : Owned) → FitTodo (ownedTodo r) (w .channel .plan)
+    by : (r : Owned) → FitTask (ownedTask r) (w .channel .plan)
     by (Owns t) = tt
     by (NotOwned r) = tt
-fits-todo fits w bytes (Choose x) = let p = w .channel .plan in by fits (planFits (p .rate) (p .start)) (askFits p x) refl refl
+fits-task fits w bytes (Choose x) = let p = w .channel .plan in by fits (planFits (p .rate) (p .start)) (askFits p x) refl refl
   where
     by : (a b c : Bool) → planFits (w .channel .plan .rate) (w .channel .plan .start) ≡ b → askFits (w .channel .plan) x ≡ c
-        → FitTodo (ladder ((a, todo.Refused OtherLength) ∷ (b, todo.Refused NoPlan) ∷ (c, todo.Refused OutOfRange) ∷ []) (todo.Choose x)) (w .channel .plan)
+        → FitTask (ladder ((a, task.Refused OtherLength) ∷ (b, task.Refused NoPlan) ∷ (c, task.Refused OutOfRange) ∷ []) (task.Choose x)) (w .channel .plan)
     by false b c e f = tt
     by true false c e f = tt
     by true true false e f = tt
     by true true true e f = (e, f)
-fits-todo fits w bytes (Report t) = let p = w .channel .plan in by fits (planFits (p .rate) (p .start)) (timeFits t) refl
+fits-task fits w bytes (Report t) = let p = w .channel .plan in by fits (planFits (p .rate) (p .start)) (timeFits t) refl
   where
     by : (a b c : Bool) → planFits (w .channel .plan .rate) (w .channel .plan .start) ≡ b
-        → FitTodo (ladder ((a, todo.Refused OtherLength) ∷ (b, todo.Refused NoPlan) ∷ (c, todo.Refused OutOfRange) ∷ []) (todo.Report t)) (w .channel .plan)
+        → FitTask (ladder ((a, task.Refused OtherLength) ∷ (b, task.Refused NoPlan) ∷ (c, task.Refused OutOfRange) ∷ []) (task.Report t)) (w .channel .plan)
     by false b c e = tt
     by true false c e = tt
     by true true false e = tt
     by true true true e = e
-fits-todo fits w bytes New = pick-has (λ (t : Todo). FitTodo t (w .channel .plan)) fits todo.New (todo.Refused OtherLength) tt tt
-fits-todo fits w bytes Sum = pick-has (λ (t : Todo). FitTodo t (w .channel .plan)) fits todo.Sum (todo.Refused OtherLength) tt tt
+fits-task fits w bytes New = pick-has (λ (t : Task). FitTask t (w .channel .plan)) fits task.New (task.Refused OtherLength) tt tt
+fits-task fits w bytes Sum = pick-has (λ (t : Task). FitTask t (w .channel .plan)) fits task.Sum (task.Refused OtherLength) tt tt
 
 module _ (reg : List Station) (book : List ℕ) (bytes : List ℕ) (x : Ask) where
   -- the case, and the one of two that it is
@@ -333,10 +333,10 @@ module _ (reg : List Station) (book : List ℕ) (bytes : List ℕ) (x : Ask) whe
   case = toldOf (length reg) (length book) bytes x
 
   abbrev goes : Bool → Case
-  goes fits = record { watch = x .watch; passes = x .passes; todo = todoOf fits (x .watch) bytes (x .what) }
+  goes fits = record { watch = x .watch; passes = x .passes; task = taskOf fits (x .watch) bytes (x .what) }
 
   abbrev stops : Case
-  stops = record { watch = x .watch; passes = 0; todo = todo.Refused OtherLength }
+  stops = record { watch = x .watch; passes = 0; task = task.Refused OtherLength }
 
   -- with other lengths it is not ready
   other : (z : Bool) → eqb (x .passes) 0 ≡ z → isReady (pick (either z false) (goes false) stops) ≡ false
@@ -360,12 +360,12 @@ module _ (reg : List Station) (book : List ℕ) (bytes : List ℕ) (x : Ask) whe
         size = eqb-true (length book) slotTimes (both-left (eqb (length book) slotTimes) (eqb (length reg) records) f);
       }
 
-  told-todo : FitTodo (case .todo) (case .watch .channel .plan)
+  told-task : FitTask (case .task) (case .watch .channel .plan)
   unfolding toldOf
-  told-todo =
+  told-task =
       let fits = fitting (length reg) (length book) in
-      pick-has (λ (c : Case). FitTodo (c .todo) (c .watch .channel .plan)) (either (eqb (x .passes) 0) fits) (goes fits) stops
-      (fits-todo fits (x .watch) bytes (x .what)) tt
+      pick-has (λ (c : Case). FitTask (c .task) (c .watch .channel .plan)) (either (eqb (x .passes) 0) fits) (goes fits) stops
+      (fits-task fits (x .watch) bytes (x .what)) tt
 
   pub told-fits : isReady case ≡ true → Fit reg book case
-  told-fits e = record { sized = told-lengths e; fits = told-todo }
+  told-fits e = record { sized = told-lengths e; fits = told-task }

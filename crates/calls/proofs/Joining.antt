@@ -43,11 +43,11 @@ use Rattle.choosing.specs.Owning.{owningOf, Owns, ownedOut}
 use Rattle.choosing.proofs.Meaning.{near, narrow, timed}
 use Rattle.choosing.proofs.Promised.{finds-the-choice}
 use Rattle.choosing.proofs.Choosing.{run-met, chooses-is}
-use Rattle.calls.specs.declared.told.Todo.{Todo}
-use Rattle.calls.specs.declared.told.Todo.the-variants as todo
+use Rattle.calls.specs.declared.told.Task.{Task}
+use Rattle.calls.specs.declared.told.Task.the-variants as task
 use Rattle.calls.specs.declared.told.Case.{Case}
 use Rattle.calls.specs.Calls.{planned, reports}
-use Rattle.calls.specs.Stages.{doneTodo, Sized, FitTodo, Fit, passOut, older, isHear, hearingBy, hearingOf, Sought, announcedOut, enteredOut, isChoose, queryBy, queryOf, Draws, drawnOut, isNew, clearedOut, isRest, sumsIn, Replans, RestNeeds, restBy, reportAnswer, reportedReply, doneOut, agedOut, carriedOut}
+use Rattle.calls.specs.Stages.{doneTask, Sized, FitTask, Fit, passOut, older, isHear, hearingBy, hearingOf, Sought, announcedOut, enteredOut, isChoose, queryBy, queryOf, Draws, drawnOut, isNew, clearedOut, isRest, sumsIn, Replans, RestNeeds, restBy, reportAnswer, reportedReply, doneOut, agedOut, carriedOut}
 
 -- where two functions say what they leave, both one after the other leave this
 pub ends-at : {Y : Type 0} {o p : Out Y} {r : Y} {zs : List Station} {cs : List ℕ} → o ≡ p → Ends o r zs cs → Ends p r zs cs
@@ -83,25 +83,25 @@ sought-fits c ys bs b zs cs z s =
       marks = n .marks;
     }
 
-hear-comes : (t : Todo) (w : Watch) (ys : List Station) (bs : List ℕ) (b : Booking) → isHear t ≡ true → length ys ≡ records
+hear-comes : (t : Task) (w : Watch) (ys : List Station) (bs : List ℕ) (b : Booking) → isHear t ≡ true → length ys ≡ records
     → (let q = hearingBy t w in let k = recordFor ys (q .telling .source) in Noted q (fitOf q k) (atOf q k) (rowsOf q k) b)
-    → enteredOut b ys bs ≡ outOf (doneTodo t (stateOf ys bs w))
-unfolding doneTodo
-hear-comes (todo.Refused r) w ys bs b e many n = never e
-hear-comes todo.Nothing w ys bs b e many n = never e
-hear-comes (todo.Hear x) w ys bs b e many n = hears-is ys bs w x many b n
-hear-comes (todo.Plan p) w ys bs b e many n = never e
-hear-comes (todo.Own o) w ys bs b e many n = never e
-hear-comes (todo.Choose a) w ys bs b e many n = never e
-hear-comes (todo.Report t) w ys bs b e many n = never e
-hear-comes todo.New w ys bs b e many n = never e
-hear-comes todo.Sum w ys bs b e many n = never e
+    → enteredOut b ys bs ≡ outOf (doneTask t (stateOf ys bs w))
+unfolding doneTask
+hear-comes (task.Refused r) w ys bs b e many n = never e
+hear-comes task.Nothing w ys bs b e many n = never e
+hear-comes (task.Hear x) w ys bs b e many n = hears-is ys bs w x many b n
+hear-comes (task.Plan p) w ys bs b e many n = never e
+hear-comes (task.Own o) w ys bs b e many n = never e
+hear-comes (task.Choose a) w ys bs b e many n = never e
+hear-comes (task.Report t) w ys bs b e many n = never e
+hear-comes task.New w ys bs b e many n = never e
+hear-comes task.Sum w ys bs b e many n = never e
 
 pub heard-is : (c : Case) (ys : List Station) (bs : List ℕ) (b : Booking) (zs : List Station) (cs : List ℕ) (r : Reply) (zs′ : List Station) (cs′ : List ℕ)
-    → Sized ys bs → isHear (c .todo) ≡ true → Sought c ys bs b zs cs → Ends (enteredOut b zs cs) r zs′ cs′ → Ends (doneOut c ys bs) r zs′ cs′
+    → Sized ys bs → isHear (c .task) ≡ true → Sought c ys bs b zs cs → Ends (enteredOut b zs cs) r zs′ cs′ → Ends (doneOut c ys bs) r zs′ cs′
 unfolding hearingOf
 heard-is c ys bs b zs cs r zs′ cs′ z e s f =
-    ends-at (ap (λ l. enteredOut b l cs) (s .leaves) ∙ ap (enteredOut b ys) (s .writes) ∙ hear-comes (c .todo) (c .watch) ys bs b e (z .register) (s .noted)) f
+    ends-at (ap (λ l. enteredOut b l cs) (s .leaves) ∙ ap (enteredOut b ys) (s .writes) ∙ hear-comes (c .task) (c .watch) ys bs b e (z .register) (s .noted)) f
 
 -- ---- choosing
 
@@ -121,20 +121,20 @@ asked-draws bs w a size few =
       width = narrow (w .present) (w .channel .plan) (a .k) (a .timeout) _ refl;
     }
 
-choose-draws : (t : Todo) (w : Watch) (bs : List ℕ) → isChoose t ≡ true → length bs ≡ slotTimes → FitTodo t (w .channel .plan) → Draws bs (queryBy t bs w)
-choose-draws (todo.Refused r) w bs e size f = never e
-choose-draws todo.Nothing w bs e size f = never e
-choose-draws (todo.Hear x) w bs e size f = never e
-choose-draws (todo.Plan p) w bs e size f = never e
-choose-draws (todo.Own o) w bs e size f = never e
-choose-draws (todo.Choose a) w bs e size f = asked-draws bs w a size (timed-out (w .channel .plan) a (f .1))
-choose-draws (todo.Report t) w bs e size f = never e
-choose-draws todo.New w bs e size f = never e
-choose-draws todo.Sum w bs e size f = never e
+choose-draws : (t : Task) (w : Watch) (bs : List ℕ) → isChoose t ≡ true → length bs ≡ slotTimes → FitTask t (w .channel .plan) → Draws bs (queryBy t bs w)
+choose-draws (task.Refused r) w bs e size f = never e
+choose-draws task.Nothing w bs e size f = never e
+choose-draws (task.Hear x) w bs e size f = never e
+choose-draws (task.Plan p) w bs e size f = never e
+choose-draws (task.Own o) w bs e size f = never e
+choose-draws (task.Choose a) w bs e size f = asked-draws bs w a size (timed-out (w .channel .plan) a (f .1))
+choose-draws (task.Report t) w bs e size f = never e
+choose-draws task.New w bs e size f = never e
+choose-draws task.Sum w bs e size f = never e
 
-pub drawn-fits : (c : Case) (ys : List Station) (bs : List ℕ) → Fit ys bs c → isChoose (c .todo) ≡ true → Draws bs (queryOf bs c)
+pub drawn-fits : (c : Case) (ys : List Station) (bs : List ℕ) → Fit ys bs c → isChoose (c .task) ≡ true → Draws bs (queryOf bs c)
 unfolding queryOf
-drawn-fits c ys bs n e = choose-draws (c .todo) (c .watch) bs e (n .sized .size) (n .fits)
+drawn-fits c ys bs n e = choose-draws (c .task) (c .watch) bs e (n .sized .size) (n .fits)
 
 asked-watch : (bs : List ℕ) (w : Watch) (a : Wanted) → asked bs w a .watch ≡ w
 unfolding asked
@@ -144,20 +144,20 @@ asked-window : (bs : List ℕ) (w : Watch) (a : Wanted) → asked bs w a .window
 unfolding asked
 asked-window bs w a = refl
 
-choose-comes : (t : Todo) (w : Watch) (ys : List Station) (bs : List ℕ) → isChoose t ≡ true → FitTodo t (w .channel .plan)
-    → (let q = queryBy t bs w in ownedOut (owningOf q (judged bs q (scanned ys bs q))) ys bs) ≡ outOf (doneTodo t (stateOf ys bs w))
-unfolding doneTodo
-choose-comes (todo.Refused r) w ys bs e f = never e
-choose-comes todo.Nothing w ys bs e f = never e
-choose-comes (todo.Hear x) w ys bs e f = never e
-choose-comes (todo.Plan p) w ys bs e f = never e
-choose-comes (todo.Own o) w ys bs e f = never e
-choose-comes (todo.Choose a) w ys bs e f =
+choose-comes : (t : Task) (w : Watch) (ys : List Station) (bs : List ℕ) → isChoose t ≡ true → FitTask t (w .channel .plan)
+    → (let q = queryBy t bs w in ownedOut (owningOf q (judged bs q (scanned ys bs q))) ys bs) ≡ outOf (doneTask t (stateOf ys bs w))
+unfolding doneTask
+choose-comes (task.Refused r) w ys bs e f = never e
+choose-comes task.Nothing w ys bs e f = never e
+choose-comes (task.Hear x) w ys bs e f = never e
+choose-comes (task.Plan p) w ys bs e f = never e
+choose-comes (task.Own o) w ys bs e f = never e
+choose-comes (task.Choose a) w ys bs e f =
     let q = asked bs w a in
     ap (λ p. ownedOut (owningOf q p) ys bs) (finds-the-choice ys bs w a (timed-out (w .channel .plan) a (f .1))) ∙ chooses-is ys bs w a q (asked-watch bs w a) (asked-window bs w a)
-choose-comes (todo.Report t) w ys bs e f = never e
-choose-comes todo.New w ys bs e f = never e
-choose-comes todo.Sum w ys bs e f = never e
+choose-comes (task.Report t) w ys bs e f = never e
+choose-comes task.New w ys bs e f = never e
+choose-comes task.Sum w ys bs e f = never e
 
 pub owns-fits : (c : Case) (ys : List Station) (bs : List ℕ) (o : Owning) (zs : List Station) (cs : List ℕ) → Sized ys bs → Ends (drawnOut c ys bs) o zs cs → Owns zs cs o
 owns-fits c ys bs o zs cs z e =
@@ -167,10 +167,10 @@ owns-fits c ys bs o zs cs z e =
     (subst (λ l. Owns l cs (drawnOut c ys bs .answer)) (sym (e .leaves)) (subst (λ l. Owns ys l (drawnOut c ys bs .answer)) (sym (e .writes)) met))
 
 pub chosen-is : (c : Case) (ys : List Station) (bs : List ℕ) (o : Owning) (zs : List Station) (cs : List ℕ) (r : Reply) (zs′ : List Station) (cs′ : List ℕ)
-    → Fit ys bs c → isChoose (c .todo) ≡ true → Ends (drawnOut c ys bs) o zs cs → Ends (ownedOut o zs cs) r zs′ cs′ → Ends (doneOut c ys bs) r zs′ cs′
+    → Fit ys bs c → isChoose (c .task) ≡ true → Ends (drawnOut c ys bs) o zs cs → Ends (ownedOut o zs cs) r zs′ cs′ → Ends (doneOut c ys bs) r zs′ cs′
 unfolding queryOf
 chosen-is c ys bs o zs cs r zs′ cs′ n e d f =
-    ends-at ((λ i. ownedOut (d .answers i) (d .leaves i) (d .writes i)) ∙ choose-comes (c .todo) (c .watch) ys bs e (n .fits)) f
+    ends-at ((λ i. ownedOut (d .answers i) (d .leaves i) (d .writes i)) ∙ choose-comes (c .task) (c .watch) ys bs e (n .fits)) f
 
 -- ---- a new book and register
 
@@ -178,36 +178,36 @@ all-blank : (ys : List Station) → map (λ (s : Station). blank) ys ≡ replica
 all-blank [] = refl
 all-blank (r ∷ ys) = ap (λ (l : List Station). blank ∷ l) (all-blank ys)
 
-new-comes : (t : Todo) (w : Watch) (ys : List Station) (bs : List ℕ) → isNew t ≡ true → length ys ≡ records → length bs ≡ slotTimes
-    → clearedOut (map (λ (s : Station). blank) ys) bs ≡ outOf (doneTodo t (stateOf ys bs w))
-unfolding doneTodo newState
-new-comes (todo.Refused r) w ys bs e many size = never e
-new-comes todo.Nothing w ys bs e many size = never e
-new-comes (todo.Hear x) w ys bs e many size = never e
-new-comes (todo.Plan p) w ys bs e many size = never e
-new-comes (todo.Own o) w ys bs e many size = never e
-new-comes (todo.Choose a) w ys bs e many size = never e
-new-comes (todo.Report t) w ys bs e many size = never e
-new-comes todo.New w ys bs e many size =
+new-comes : (t : Task) (w : Watch) (ys : List Station) (bs : List ℕ) → isNew t ≡ true → length ys ≡ records → length bs ≡ slotTimes
+    → clearedOut (map (λ (s : Station). blank) ys) bs ≡ outOf (doneTask t (stateOf ys bs w))
+unfolding doneTask newState
+new-comes (task.Refused r) w ys bs e many size = never e
+new-comes task.Nothing w ys bs e many size = never e
+new-comes (task.Hear x) w ys bs e many size = never e
+new-comes (task.Plan p) w ys bs e many size = never e
+new-comes (task.Own o) w ys bs e many size = never e
+new-comes (task.Choose a) w ys bs e many size = never e
+new-comes (task.Report t) w ys bs e many size = never e
+new-comes task.New w ys bs e many size =
     λ i. out (record { watch = newWatch; answer = Begun }) ((all-blank ys ∙ ap (λ (n : ℕ). replicate n blank) many) i) (ap (λ (n : ℕ). replicate n 0) size i)
-new-comes todo.Sum w ys bs e many size = never e
+new-comes task.Sum w ys bs e many size = never e
 
-pub begun-is : (c : Case) (ys : List Station) (bs : List ℕ) (r : Reply) (zs : List Station) (cs : List ℕ) → Sized ys bs → isNew (c .todo) ≡ true
+pub begun-is : (c : Case) (ys : List Station) (bs : List ℕ) (r : Reply) (zs : List Station) (cs : List ℕ) → Sized ys bs → isNew (c .task) ≡ true
     → Ends (clearedOut (map (λ (s : Station). blank) ys) bs) r zs cs → Ends (doneOut c ys bs) r zs cs
-begun-is c ys bs r zs cs z e f = ends-at (new-comes (c .todo) (c .watch) ys bs e (z .register) (z .size)) f
+begun-is c ys bs r zs cs z e f = ends-at (new-comes (c .task) (c .watch) ys bs e (z .register) (z .size)) f
 
 -- ---- the rest
 
-pub rest-else : (t : Todo) → isHear t ≡ false → isChoose t ≡ false → isNew t ≡ false → isRest t ≡ true
-rest-else (todo.Refused r) h c n = refl
-rest-else todo.Nothing h c n = refl
-rest-else (todo.Hear x) h c n = never (sym h)
-rest-else (todo.Plan p) h c n = refl
-rest-else (todo.Own o) h c n = refl
-rest-else (todo.Choose a) h c n = never (sym c)
-rest-else (todo.Report t) h c n = refl
-rest-else todo.New h c n = never (sym n)
-rest-else todo.Sum h c n = refl
+pub rest-else : (t : Task) → isHear t ≡ false → isChoose t ≡ false → isNew t ≡ false → isRest t ≡ true
+rest-else (task.Refused r) h c n = refl
+rest-else task.Nothing h c n = refl
+rest-else (task.Hear x) h c n = never (sym h)
+rest-else (task.Plan p) h c n = refl
+rest-else (task.Own o) h c n = refl
+rest-else (task.Choose a) h c n = never (sym c)
+rest-else (task.Report t) h c n = refl
+rest-else task.New h c n = never (sym n)
+rest-else task.Sum h c n = refl
 
 -- no more stations than records
 heard-most : (l : List ℕ) → heardStations l ≤ length l
@@ -247,22 +247,22 @@ report-comes w t ys bs = go (ownAt bs (w .present) 0)
     go true = refl
     go false = refl
 
-rest-comes : (t : Todo) (c : Case) (ys : List Station) (bs : List ℕ) (r : Reply) (cs : List ℕ) → isRest t ≡ true → length ys ≡ records → length bs ≡ slotTimes
-    → restBy t c (sumsIn ys) bs r cs → Ends (outOf (doneTodo t (stateOf ys bs (c .watch)))) r ys cs
-unfolding doneTodo sumsIn
-rest-comes (todo.Refused x) c ys bs r cs e many size f = record { answers = f .0; leaves = refl; writes = f .1 }
-rest-comes todo.Nothing c ys bs r cs e many size f = record { answers = f .0; leaves = refl; writes = f .1 }
-rest-comes (todo.Hear x) c ys bs r cs e many size f = never e
-rest-comes (todo.Plan p) c ys bs r cs e many size f = plan-comes (c .watch) p ys bs r cs many size f
-rest-comes (todo.Own o) c ys bs r cs e many size f = record { answers = f .0; leaves = refl; writes = f .1 }
-rest-comes (todo.Choose a) c ys bs r cs e many size f = never e
-rest-comes (todo.Report t) c ys bs r cs e many size f = ends-at (report-comes (c .watch) t ys bs) (record { answers = f .0; leaves = refl; writes = f .1 })
-rest-comes todo.New c ys bs r cs e many size f = never e
-rest-comes todo.Sum c ys bs r cs e many size f = record { answers = f .0; leaves = refl; writes = f .1 }
+rest-comes : (t : Task) (c : Case) (ys : List Station) (bs : List ℕ) (r : Reply) (cs : List ℕ) → isRest t ≡ true → length ys ≡ records → length bs ≡ slotTimes
+    → restBy t c (sumsIn ys) bs r cs → Ends (outOf (doneTask t (stateOf ys bs (c .watch)))) r ys cs
+unfolding doneTask sumsIn
+rest-comes (task.Refused x) c ys bs r cs e many size f = record { answers = f .0; leaves = refl; writes = f .1 }
+rest-comes task.Nothing c ys bs r cs e many size f = record { answers = f .0; leaves = refl; writes = f .1 }
+rest-comes (task.Hear x) c ys bs r cs e many size f = never e
+rest-comes (task.Plan p) c ys bs r cs e many size f = plan-comes (c .watch) p ys bs r cs many size f
+rest-comes (task.Own o) c ys bs r cs e many size f = record { answers = f .0; leaves = refl; writes = f .1 }
+rest-comes (task.Choose a) c ys bs r cs e many size f = never e
+rest-comes (task.Report t) c ys bs r cs e many size f = ends-at (report-comes (c .watch) t ys bs) (record { answers = f .0; leaves = refl; writes = f .1 })
+rest-comes task.New c ys bs r cs e many size f = never e
+rest-comes task.Sum c ys bs r cs e many size f = record { answers = f .0; leaves = refl; writes = f .1 }
 
-pub rest-is : (c : Case) (ys : List Station) (bs : List ℕ) (r : Reply) (cs : List ℕ) → Sized ys bs → isRest (c .todo) ≡ true
-    → restBy (c .todo) c (sumsIn ys) bs r cs → Ends (doneOut c ys bs) r ys cs
-rest-is c ys bs r cs z e f = rest-comes (c .todo) c ys bs r cs e (z .register) (z .size) f
+pub rest-is : (c : Case) (ys : List Station) (bs : List ℕ) (r : Reply) (cs : List ℕ) → Sized ys bs → isRest (c .task) ≡ true
+    → restBy (c .task) c (sumsIn ys) bs r cs → Ends (doneOut c ys bs) r ys cs
+rest-is c ys bs r cs z e f = rest-comes (c .task) c ys bs r cs e (z .register) (z .size) f
 
 -- ---- slots that pass, and the rest
 
@@ -280,12 +280,12 @@ later-fits c ys bs d zs cs n e lz lc =
     let s = slid (stateOf ys bs (c .watch)) (c .passes) in
     record {
       sized = record { register = lz ∙ n .sized .register; size = lc ∙ n .sized .size };
-      fits = subst (λ (x : Case). FitTodo (x .todo) (x .watch .channel .plan)) (sym (e .answers))
-          (subst (FitTodo (c .todo)) (sym (slid-plan (stateOf ys bs (c .watch)) (c .passes))) (n .fits));
+      fits = subst (λ (x : Case). FitTask (x .task) (x .watch .channel .plan)) (sym (e .answers))
+          (subst (FitTask (c .task)) (sym (slid-plan (stateOf ys bs (c .watch)) (c .passes))) (n .fits));
     }
 
 pub carried-is : (c : Case) (ys : List Station) (bs : List ℕ) (d : Case) (zs : List Station) (cs : List ℕ) (r : Reply) (zs′ : List Station) (cs′ : List ℕ)
     → Ends (passOut c ys bs) d zs cs → Ends (agedOut d zs cs) r zs′ cs′ → Ends (carriedOut c ys bs) r zs′ cs′
 carried-is c ys bs d zs cs r zs′ cs′ e f =
     ends-at ((λ i. agedOut (e .answers i) (e .leaves i) (e .writes i))
-    ∙ ap (λ (s : State). outOf (doneTodo (c .todo) s)) (sym (passes-slid (stateOf ys bs (c .watch)) (c .passes)))) f
+    ∙ ap (λ (s : State). outOf (doneTask (c .task) s)) (sym (passes-slid (stateOf ys bs (c .watch)) (c .passes)))) f

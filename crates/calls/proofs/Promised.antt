@@ -24,11 +24,11 @@ use Rattle.hearing.specs.Hear.{hears, bookTests}
 use Rattle.choosing.specs.Choose.{drawTests, chooses}
 use Rattle.calls.specs.declared.What.{What}
 use Rattle.calls.specs.declared.What.the-variants.{Nothing}
-use Rattle.calls.specs.declared.told.Todo.{Todo}
-use Rattle.calls.specs.declared.told.Todo.the-variants as todo
+use Rattle.calls.specs.declared.told.Task.{Task}
+use Rattle.calls.specs.declared.told.Task.the-variants as task
 use Rattle.calls.specs.Calls.{passTests, pass, planned, planTests, plan, owning, ownTests, own, reportTests, reports, report, begin, sum, done, called}
-use Rattle.calls.specs.Told.{todoOf}
-use Rattle.calls.specs.Stages.{doneTodo}
+use Rattle.calls.specs.Told.{taskOf}
+use Rattle.calls.specs.Stages.{doneTask}
 use Rattle.calls.specs.Promises.{
   PassExactly,
   PlanExactly,
@@ -103,23 +103,23 @@ kept-ladder s ((true, y) ∷ ts) x l k e = kept-ladder s ts x (l .1) k e
 kept-ladder s ((false, y) ∷ ts) x l k e = l .0
 
 -- what is left to be done, where it is refused
-kept-todo : (t : Todo) (s : State) → Kept s (doneTodo t s)
-unfolding doneTodo
-kept-todo (todo.Refused r) s e = refl
-kept-todo todo.Nothing s e = refl
-kept-todo (todo.Hear x) s e = kept-ladder s (bookTests s x) (hears s x) (refl, (refl, tt)) (λ z. never z) e
-kept-todo (todo.Plan p) s e = never e
-kept-todo (todo.Own o) s e = never e
-kept-todo (todo.Choose a) s e = kept-ladder s (drawTests s a) (chooses s a) (refl, (refl, (refl, (refl, tt)))) (λ z. never z) e
-kept-todo (todo.Report t) s e = kept-ladder s ((ownAt (s .book) (s .watch .present) 0, no s NotOwn) ∷ []) (reports s t) (refl, tt) (λ z. refl) e
-kept-todo todo.New s e = never e
-kept-todo todo.Sum s e = refl
+kept-task : (t : Task) (s : State) → Kept s (doneTask t s)
+unfolding doneTask
+kept-task (task.Refused r) s e = refl
+kept-task task.Nothing s e = refl
+kept-task (task.Hear x) s e = kept-ladder s (bookTests s x) (hears s x) (refl, (refl, tt)) (λ z. never z) e
+kept-task (task.Plan p) s e = never e
+kept-task (task.Own o) s e = never e
+kept-task (task.Choose a) s e = kept-ladder s (drawTests s a) (chooses s a) (refl, (refl, (refl, (refl, tt)))) (λ z. never z) e
+kept-task (task.Report t) s e = kept-ladder s ((ownAt (s .book) (s .watch .present) 0, no s NotOwn) ∷ []) (reports s t) (refl, tt) (λ z. refl) e
+kept-task task.New s e = never e
+kept-task task.Sum s e = refl
 
 kept : (s : State) (bytes : List ℕ) (q : What) (n : Refusal) → done q s bytes .answer ≡ Refused n → done q s bytes .state ≡ s
 kept s bytes q n e =
     let is = done-is q s bytes in
-    let t = todoOf (sized s) (s .watch) bytes q in
-    ap (λ (a : Answered). a .state) is ∙ kept-todo t s (ap (λ (a : Answered). isRefusal (a .answer)) (sym is) ∙ ap isRefusal e)
+    let t = taskOf (sized s) (s .watch) bytes q in
+    ap (λ (a : Answered). a .state) is ∙ kept-task t s (ap (λ (a : Answered). isRefusal (a .answer)) (sym is) ∙ ap isRefusal e)
 
 pub refused-keeps : RefusedKeepsAll
 unfolding called upto

@@ -76,7 +76,7 @@ ends c ys bs t zs cs u z =
     let all : u .i ≡ c .passes = omega (arith, u .rest, z) in
     let is : stands c t zs cs ≡ slid (stateOf ys bs (c .watch)) (c .passes) = u .is ∙ ap (slid (stateOf ys bs (c .watch))) all in
     record {
-      answers = λ i. record { watch = is i .watch; passes = c .passes; todo = c .todo };
+      answers = λ i. record { watch = is i .watch; passes = c .passes; task = c .task };
       leaves = λ i. is i .reg;
       writes = λ i. is i .book;
     }

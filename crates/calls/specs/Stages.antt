@@ -39,24 +39,24 @@ use Rattle.choosing.specs.Choosing.{askFits}
 use Rattle.choosing.specs.Scanning.{asked, scanned, judged}
 use Rattle.choosing.specs.Choose.{drawTests, chooses}
 use Rattle.choosing.specs.Owning.{owningOf}
-use Rattle.calls.specs.declared.told.Todo.{Todo}
-use Rattle.calls.specs.declared.told.Todo.the-variants as todo
+use Rattle.calls.specs.declared.told.Task.{Task}
+use Rattle.calls.specs.declared.told.Task.the-variants as task
 use Rattle.calls.specs.declared.told.Case.{Case}
 use Rattle.calls.specs.declared.stages.Sums.{Sums}
 use Rattle.calls.specs.Calls.{planned, owning, reports}
 
 -- ---- what is left to be done, on a state whose lengths are right
 
-unfoldable pub doneTodo : Todo → State → Answered
-doneTodo (todo.Refused r) s = no s r
-doneTodo todo.Nothing s = answered Passed s
-doneTodo (todo.Hear x) s = ladder (bookTests s x) (hears s x)
-doneTodo (todo.Plan p) s = answered Planned (planned s p)
-doneTodo (todo.Own o) s = answered Set (owning s o)
-doneTodo (todo.Choose a) s = ladder (drawTests s a) (chooses s a)
-doneTodo (todo.Report t) s = ladder ((ownAt (s .book) (s .watch .present) 0, no s NotOwn) ∷ []) (reports s t)
-doneTodo todo.New s = answered Begun (newState slotTimes records)
-doneTodo todo.Sum s = answered (Summed (sum (talliesIn (s .reg)))) s
+unfoldable pub doneTask : Task → State → Answered
+doneTask (task.Refused r) s = no s r
+doneTask task.Nothing s = answered Passed s
+doneTask (task.Hear x) s = ladder (bookTests s x) (hears s x)
+doneTask (task.Plan p) s = answered Planned (planned s p)
+doneTask (task.Own o) s = answered Set (owning s o)
+doneTask (task.Choose a) s = ladder (drawTests s a) (chooses s a)
+doneTask (task.Report t) s = ladder ((ownAt (s .book) (s .watch .present) 0, no s NotOwn) ∷ []) (reports s t)
+doneTask task.New s = answered Begun (newState slotTimes records)
+doneTask task.Sum s = answered (Summed (sum (talliesIn (s .reg)))) s
 
 -- ---- what the stages need
 
@@ -65,20 +65,20 @@ pub record Sized (reg : List Station) (book : List ℕ) : Type 0 where
   pub size : length book ≡ slotTimes
 
 -- a choice and a report have a plan, and a choice asks for one of its windows
-abbrev pub FitTodo : Todo → Plan → Type 0
-FitTodo (todo.Refused r) p = Unit {0}
-FitTodo todo.Nothing p = Unit {0}
-FitTodo (todo.Hear x) p = Unit {0}
-FitTodo (todo.Plan q) p = Unit {0}
-FitTodo (todo.Own o) p = Unit {0}
-FitTodo (todo.Choose a) p = (planFits (p .rate) (p .start) ≡ true) × (askFits p a ≡ true)
-FitTodo (todo.Report t) p = planFits (p .rate) (p .start) ≡ true
-FitTodo todo.New p = Unit {0}
-FitTodo todo.Sum p = Unit {0}
+abbrev pub FitTask : Task → Plan → Type 0
+FitTask (task.Refused r) p = Unit {0}
+FitTask task.Nothing p = Unit {0}
+FitTask (task.Hear x) p = Unit {0}
+FitTask (task.Plan q) p = Unit {0}
+FitTask (task.Own o) p = Unit {0}
+FitTask (task.Choose a) p = (planFits (p .rate) (p .start) ≡ true) × (askFits p a ≡ true)
+FitTask (task.Report t) p = planFits (p .rate) (p .start) ≡ true
+FitTask task.New p = Unit {0}
+FitTask task.Sum p = Unit {0}
 
 pub record Fit (reg : List Station) (book : List ℕ) (c : Case) : Type 0 where
   pub sized : Sized reg book
-  pub fits : FitTodo (c .todo) (c .watch .channel .plan)
+  pub fits : FitTask (c .task) (c .watch .channel .plan)
 
 -- ---- slots that pass
 
@@ -98,7 +98,7 @@ pub record PassesOne (book : List ℕ) (t r : Turn) (book′ : List ℕ) : Type 
   pub less : r .left + 1 ≡ t .left
 
 abbrev pub rewatched : Case → Watch → Case
-rewatched c w = record { watch = w; passes = c .passes; todo = c .todo }
+rewatched c w = record { watch = w; passes = c .passes; task = c .task }
 
 abbrev pub recased : Case → Turn → Case
 recased c t =
@@ -113,30 +113,30 @@ older r c = withHold r (r .hold - c .passes)
 
 -- ---- hearing
 
-abbrev pub isHear : Todo → Bool
-isHear (todo.Refused r) = false
-isHear todo.Nothing = false
-isHear (todo.Hear x) = true
-isHear (todo.Plan p) = false
-isHear (todo.Own o) = false
-isHear (todo.Choose a) = false
-isHear (todo.Report t) = false
-isHear todo.New = false
-isHear todo.Sum = false
+abbrev pub isHear : Task → Bool
+isHear (task.Refused r) = false
+isHear task.Nothing = false
+isHear (task.Hear x) = true
+isHear (task.Plan p) = false
+isHear (task.Own o) = false
+isHear (task.Choose a) = false
+isHear (task.Report t) = false
+isHear task.New = false
+isHear task.Sum = false
 
-abbrev pub hearingBy : Todo → Watch → Hearing
-hearingBy (todo.Refused r) w = record { watch = w; telling = tellingOf Other }
-hearingBy todo.Nothing w = record { watch = w; telling = tellingOf Other }
-hearingBy (todo.Hear x) w = record { watch = w; telling = x }
-hearingBy (todo.Plan p) w = record { watch = w; telling = tellingOf Other }
-hearingBy (todo.Own o) w = record { watch = w; telling = tellingOf Other }
-hearingBy (todo.Choose a) w = record { watch = w; telling = tellingOf Other }
-hearingBy (todo.Report t) w = record { watch = w; telling = tellingOf Other }
-hearingBy todo.New w = record { watch = w; telling = tellingOf Other }
-hearingBy todo.Sum w = record { watch = w; telling = tellingOf Other }
+abbrev pub hearingBy : Task → Watch → Hearing
+hearingBy (task.Refused r) w = record { watch = w; telling = tellingOf Other }
+hearingBy task.Nothing w = record { watch = w; telling = tellingOf Other }
+hearingBy (task.Hear x) w = record { watch = w; telling = x }
+hearingBy (task.Plan p) w = record { watch = w; telling = tellingOf Other }
+hearingBy (task.Own o) w = record { watch = w; telling = tellingOf Other }
+hearingBy (task.Choose a) w = record { watch = w; telling = tellingOf Other }
+hearingBy (task.Report t) w = record { watch = w; telling = tellingOf Other }
+hearingBy task.New w = record { watch = w; telling = tellingOf Other }
+hearingBy task.Sum w = record { watch = w; telling = tellingOf Other }
 
 unfoldable pub hearingOf : Case → Hearing
-hearingOf c = hearingBy (c .todo) (c .watch)
+hearingOf c = hearingBy (c .task) (c .watch)
 
 pub record Sought (c : Case) (reg : List Station) (book : List ℕ) (b : Booking) (reg′ : List Station) (book′ : List ℕ) : Type 0 where
   pub noted : let q = hearingOf c in let k = recordFor reg (q .telling .source) in Noted q (fitOf q k) (atOf q k) (rowsOf q k) b
@@ -151,38 +151,38 @@ enteredOut b reg book = announcedOut b (storedIn reg b) book
 
 -- ---- choosing
 
-abbrev pub isChoose : Todo → Bool
-isChoose (todo.Refused r) = false
-isChoose todo.Nothing = false
-isChoose (todo.Hear x) = false
-isChoose (todo.Plan p) = false
-isChoose (todo.Own o) = false
-isChoose (todo.Choose a) = true
-isChoose (todo.Report t) = false
-isChoose todo.New = false
-isChoose todo.Sum = false
+abbrev pub isChoose : Task → Bool
+isChoose (task.Refused r) = false
+isChoose task.Nothing = false
+isChoose (task.Hear x) = false
+isChoose (task.Plan p) = false
+isChoose (task.Own o) = false
+isChoose (task.Choose a) = true
+isChoose (task.Report t) = false
+isChoose task.New = false
+isChoose task.Sum = false
 
 -- what the query of a case needs
 pub record Asks (book : List ℕ) (c : Case) : Type 0 where
   pub size : length book ≡ slotTimes
-  pub fits : FitTodo (c .todo) (c .watch .channel .plan)
+  pub fits : FitTask (c .task) (c .watch .channel .plan)
 
 abbrev pub noQuery : Watch → Query
 noQuery w = record { watch = w; window = record { present = 0; first = 0; width = 0; timeout = 0 }; draw = 0; taken = true; free = 0 }
 
-abbrev pub queryBy : Todo → List ℕ → Watch → Query
-queryBy (todo.Refused r) book w = noQuery w
-queryBy todo.Nothing book w = noQuery w
-queryBy (todo.Hear x) book w = noQuery w
-queryBy (todo.Plan p) book w = noQuery w
-queryBy (todo.Own o) book w = noQuery w
-queryBy (todo.Choose a) book w = asked book w a
-queryBy (todo.Report t) book w = noQuery w
-queryBy todo.New book w = noQuery w
-queryBy todo.Sum book w = noQuery w
+abbrev pub queryBy : Task → List ℕ → Watch → Query
+queryBy (task.Refused r) book w = noQuery w
+queryBy task.Nothing book w = noQuery w
+queryBy (task.Hear x) book w = noQuery w
+queryBy (task.Plan p) book w = noQuery w
+queryBy (task.Own o) book w = noQuery w
+queryBy (task.Choose a) book w = asked book w a
+queryBy (task.Report t) book w = noQuery w
+queryBy task.New book w = noQuery w
+queryBy task.Sum book w = noQuery w
 
 unfoldable pub queryOf : List ℕ → Case → Query
-queryOf book c = queryBy (c .todo) book (c .watch)
+queryOf book c = queryBy (c .task) book (c .watch)
 
 -- what the draw needs
 pub record Draws (book : List ℕ) (q : Query) : Type 0 where
@@ -196,32 +196,32 @@ drawnOut c reg book = let q = queryOf book c in out (owningOf q (judged book q (
 
 -- ---- a new book and register
 
-abbrev pub isNew : Todo → Bool
-isNew (todo.Refused r) = false
-isNew todo.Nothing = false
-isNew (todo.Hear x) = false
-isNew (todo.Plan p) = false
-isNew (todo.Own o) = false
-isNew (todo.Choose a) = false
-isNew (todo.Report t) = false
-isNew todo.New = true
-isNew todo.Sum = false
+abbrev pub isNew : Task → Bool
+isNew (task.Refused r) = false
+isNew task.Nothing = false
+isNew (task.Hear x) = false
+isNew (task.Plan p) = false
+isNew (task.Own o) = false
+isNew (task.Choose a) = false
+isNew (task.Report t) = false
+isNew task.New = true
+isNew task.Sum = false
 
 abbrev pub clearedOut : List Station → List ℕ → Out Reply
 clearedOut reg book = out (record { watch = newWatch; answer = Begun }) reg (replicate (length book) 0)
 
 -- ---- the rest
 
-abbrev pub isRest : Todo → Bool
-isRest (todo.Refused r) = true
-isRest todo.Nothing = true
-isRest (todo.Hear x) = false
-isRest (todo.Plan p) = true
-isRest (todo.Own o) = true
-isRest (todo.Choose a) = false
-isRest (todo.Report t) = true
-isRest todo.New = false
-isRest todo.Sum = true
+abbrev pub isRest : Task → Bool
+isRest (task.Refused r) = true
+isRest task.Nothing = true
+isRest (task.Hear x) = false
+isRest (task.Plan p) = true
+isRest (task.Own o) = true
+isRest (task.Choose a) = false
+isRest (task.Report t) = true
+isRest task.New = false
+isRest task.Sum = true
 
 abbrev pub noSums : Sums
 noSums = record { stations = 0; total = 0 }
@@ -253,31 +253,31 @@ reportedReply book w n t =
 pub record RestNeeds (book : List ℕ) (c : Case) (n : Sums) : Type 0 where
   pub size : length book ≡ slotTimes
   pub few : n .stations ≤ records
-  pub fits : FitTodo (c .todo) (c .watch .channel .plan)
+  pub fits : FitTask (c .task) (c .watch .channel .plan)
 
 -- the reply, and a book that stays
 abbrev pub Stays : Watch → Answer → List ℕ → Reply → List ℕ → Type 0
 Stays w a book r book′ = (r ≡ record { watch = w; answer = a }) × (book′ ≡ book)
 
-abbrev pub restBy : Todo → Case → Sums → List ℕ → Reply → List ℕ → Type 0
-restBy (todo.Refused x) c n book r book′ = Stays (c .watch) (Refused x) book r book′
-restBy todo.Nothing c n book r book′ = Stays (c .watch) Passed book r book′
-restBy (todo.Hear x) c n book r book′ = Stays (c .watch) Passed book r book′
-restBy (todo.Plan p) c n book r book′ = Replans book (c .watch) p r book′
-restBy (todo.Own o) c n book r book′ =
+abbrev pub restBy : Task → Case → Sums → List ℕ → Reply → List ℕ → Type 0
+restBy (task.Refused x) c n book r book′ = Stays (c .watch) (Refused x) book r book′
+restBy task.Nothing c n book r book′ = Stays (c .watch) Passed book r book′
+restBy (task.Hear x) c n book r book′ = Stays (c .watch) Passed book r book′
+restBy (task.Plan p) c n book r book′ = Replans book (c .watch) p r book′
+restBy (task.Own o) c n book r book′ =
     Stays (record { present = c .watch .present; channel = c .watch .channel; ship = o }) Set book r book′
-restBy (todo.Choose a) c n book r book′ = Stays (c .watch) Passed book r book′
-restBy (todo.Report t) c n book r book′ = (r ≡ reportedReply book (c .watch) n t) × (book′ ≡ book)
-restBy todo.New c n book r book′ = Stays (c .watch) Passed book r book′
-restBy todo.Sum c n book r book′ = Stays (c .watch) (Summed (n .total)) book r book′
+restBy (task.Choose a) c n book r book′ = Stays (c .watch) Passed book r book′
+restBy (task.Report t) c n book r book′ = (r ≡ reportedReply book (c .watch) n t) × (book′ ≡ book)
+restBy task.New c n book r book′ = Stays (c .watch) Passed book r book′
+restBy task.Sum c n book r book′ = Stays (c .watch) (Summed (n .total)) book r book′
 
 -- ---- all of it
 
 abbrev pub doneOut : Case → List Station → List ℕ → Out Reply
-doneOut c reg book = outOf (doneTodo (c .todo) (stateOf reg book (c .watch)))
+doneOut c reg book = outOf (doneTask (c .task) (stateOf reg book (c .watch)))
 
 abbrev pub agedOut : Case → List Station → List ℕ → Out Reply
-agedOut c reg book = outOf (doneTodo (c .todo) (aged (c .passes) (stateOf reg book (c .watch))))
+agedOut c reg book = outOf (doneTask (c .task) (aged (c .passes) (stateOf reg book (c .watch))))
 
 abbrev pub carriedOut : Case → List Station → List ℕ → Out Reply
-carriedOut c reg book = outOf (doneTodo (c .todo) (passes (stateOf reg book (c .watch)) (c .passes)))
+carriedOut c reg book = outOf (doneTask (c .task) (passes (stateOf reg book (c .watch)) (c .passes)))

@@ -29,88 +29,88 @@ use Rattle.choosing.specs.Choosing.{askFits}
 use Rattle.calls.specs.declared.Ask.{Ask}
 use Rattle.calls.specs.declared.What.{What}
 use Rattle.calls.specs.declared.What.the-variants.{Nothing, Hear, Plan as ToPlan, Own, Choose, Report, New, Sum}
-use Rattle.calls.specs.declared.told.Todo.{Todo}
-use Rattle.calls.specs.declared.told.Todo.the-variants as todo
+use Rattle.calls.specs.declared.told.Task.{Task}
+use Rattle.calls.specs.declared.told.Task.the-variants as task
 use Rattle.calls.specs.declared.told.Case.{Case}
 
 -- a register of n records and a book of m places have their lengths
 unfoldable pub fitting : ℕ → ℕ → Bool
 fitting n m = both (eqb m slotTimes) (eqb n records)
 
-unfoldable pub fitTodo : Bool → Todo → Todo
-fitTodo fits t = ladder ((fits, todo.Refused OtherLength) ∷ []) t
+unfoldable pub fitTask : Bool → Task → Task
+fitTask fits t = ladder ((fits, task.Refused OtherLength) ∷ []) t
 
-unfoldable pub tellingTodo : Bool → ℕ → Telling → Todo
-tellingTodo fits own x =
-    ladder ((fits, todo.Refused OtherLength) ∷ (fairOther (x .source) own, todo.Refused BadSource) ∷ (eqb (x .repeat) 0, todo.Refused Repeated) ∷ []) (todo.Hear x)
+unfoldable pub tellingTask : Bool → ℕ → Telling → Task
+tellingTask fits own x =
+    ladder ((fits, task.Refused OtherLength) ∷ (fairOther (x .source) own, task.Refused BadSource) ∷ (eqb (x .repeat) 0, task.Refused Repeated) ∷ []) (task.Hear x)
 
-abbrev pub receivedTodo : Bool → ℕ → Received → Todo
-receivedTodo fits own (Got m) = tellingTodo fits own (tellingOf m)
-receivedTodo fits own (NotRead r) = todo.Refused r
+abbrev pub receivedTask : Bool → ℕ → Received → Task
+receivedTask fits own (Got m) = tellingTask fits own (tellingOf m)
+receivedTask fits own (NotRead r) = task.Refused r
 
-unfoldable pub heardTodo : Bool → ℕ → List ℕ → Todo
-heardTodo fits own bytes = receivedTodo fits own (readAnswer bytes)
+unfoldable pub heardTask : Bool → ℕ → List ℕ → Task
+heardTask fits own bytes = receivedTask fits own (readAnswer bytes)
 
-unfoldable pub planTodo : Bool → Plan → Todo
-planTodo fits p = ladder ((fits, todo.Refused OtherLength) ∷ (planFits (p .rate) (p .start), todo.Refused OutOfRange) ∷ []) (todo.Plan p)
+unfoldable pub planTask : Bool → Plan → Task
+planTask fits p = ladder ((fits, task.Refused OtherLength) ∷ (planFits (p .rate) (p .start), task.Refused OutOfRange) ∷ []) (task.Plan p)
 
-abbrev pub ownedTodo : Owned → Todo
-ownedTodo (Done s) = todo.Own s
-ownedTodo (NotOwned r) = todo.Refused r
+abbrev pub ownedTask : Owned → Task
+ownedTask (Done s) = task.Own s
+ownedTask (NotOwned r) = task.Refused r
 
-unfoldable pub ownTodo : Ship → Todo
-ownTodo s = ownedTodo (ownAnswer (s .source) (s .latitude) (s .longitude))
+unfoldable pub ownTask : Ship → Task
+ownTask s = ownedTask (ownAnswer (s .source) (s .latitude) (s .longitude))
 
-unfoldable pub chooseTodo : Bool → Plan → Wanted → Todo
-chooseTodo fits p a =
-    ladder ((fits, todo.Refused OtherLength) ∷ (planFits (p .rate) (p .start), todo.Refused NoPlan) ∷ (askFits p a, todo.Refused OutOfRange) ∷ []) (todo.Choose a)
+unfoldable pub chooseTask : Bool → Plan → Wanted → Task
+chooseTask fits p a =
+    ladder ((fits, task.Refused OtherLength) ∷ (planFits (p .rate) (p .start), task.Refused NoPlan) ∷ (askFits p a, task.Refused OutOfRange) ∷ []) (task.Choose a)
 
-unfoldable pub reportTodo : Bool → Plan → Time → Todo
-reportTodo fits p t =
-    ladder ((fits, todo.Refused OtherLength) ∷ (planFits (p .rate) (p .start), todo.Refused NoPlan) ∷ (timeFits t, todo.Refused OutOfRange) ∷ []) (todo.Report t)
+unfoldable pub reportTask : Bool → Plan → Time → Task
+reportTask fits p t =
+    ladder ((fits, task.Refused OtherLength) ∷ (planFits (p .rate) (p .start), task.Refused NoPlan) ∷ (timeFits t, task.Refused OutOfRange) ∷ []) (task.Report t)
 
-abbrev pub todoOf : Bool → Watch → List ℕ → What → Todo
-todoOf fits w bytes Nothing = fitTodo fits todo.Nothing
-todoOf fits w bytes Hear = heardTodo fits (w .ship .source) bytes
-todoOf fits w bytes (ToPlan p) = planTodo fits p
-todoOf fits w bytes (Own s) = ownTodo s
-todoOf fits w bytes (Choose a) = chooseTodo fits (w .channel .plan) a
-todoOf fits w bytes (Report t) = reportTodo fits (w .channel .plan) t
-todoOf fits w bytes New = fitTodo fits todo.New
-todoOf fits w bytes Sum = fitTodo fits todo.Sum
+abbrev pub taskOf : Bool → Watch → List ℕ → What → Task
+taskOf fits w bytes Nothing = fitTask fits task.Nothing
+taskOf fits w bytes Hear = heardTask fits (w .ship .source) bytes
+taskOf fits w bytes (ToPlan p) = planTask fits p
+taskOf fits w bytes (Own s) = ownTask s
+taskOf fits w bytes (Choose a) = chooseTask fits (w .channel .plan) a
+taskOf fits w bytes (Report t) = reportTask fits (w .channel .plan) t
+taskOf fits w bytes New = fitTask fits task.New
+taskOf fits w bytes Sum = fitTask fits task.Sum
 
 -- where slots pass, the lengths are asked first
 unfoldable pub toldOf : ℕ → ℕ → List ℕ → Ask → Case
 toldOf n m bytes x =
     pick (either (eqb (x .passes) 0) (fitting n m))
-    (record { watch = x .watch; passes = x .passes; todo = todoOf (fitting n m) (x .watch) bytes (x .what) })
-    (record { watch = x .watch; passes = 0; todo = todo.Refused OtherLength })
+    (record { watch = x .watch; passes = x .passes; task = taskOf (fitting n m) (x .watch) bytes (x .what) })
+    (record { watch = x .watch; passes = 0; task = task.Refused OtherLength })
 
 -- register and book are needed
-abbrev pub needsThem : Todo → Bool
-needsThem (todo.Refused r) = false
-needsThem todo.Nothing = true
-needsThem (todo.Hear x) = true
-needsThem (todo.Plan p) = true
-needsThem (todo.Own s) = false
-needsThem (todo.Choose a) = true
-needsThem (todo.Report t) = true
-needsThem todo.New = true
-needsThem todo.Sum = true
+abbrev pub needsThem : Task → Bool
+needsThem (task.Refused r) = false
+needsThem task.Nothing = true
+needsThem (task.Hear x) = true
+needsThem (task.Plan p) = true
+needsThem (task.Own s) = false
+needsThem (task.Choose a) = true
+needsThem (task.Report t) = true
+needsThem task.New = true
+needsThem task.Sum = true
 
 unfoldable pub isReady : Case → Bool
-isReady c = either (ltb 0 (c .passes)) (needsThem (c .todo))
+isReady c = either (ltb 0 (c .passes)) (needsThem (c .task))
 
-abbrev pub replyTo : Todo → Watch → Reply
-replyTo (todo.Refused r) w = record { watch = w; answer = Refused r }
-replyTo todo.Nothing w = record { watch = w; answer = Passed }
-replyTo (todo.Hear x) w = record { watch = w; answer = Passed }
-replyTo (todo.Plan p) w = record { watch = w; answer = Passed }
-replyTo (todo.Own s) w = record { watch = record { present = w .present; channel = w .channel; ship = s }; answer = Set }
-replyTo (todo.Choose a) w = record { watch = w; answer = Passed }
-replyTo (todo.Report t) w = record { watch = w; answer = Passed }
-replyTo todo.New w = record { watch = w; answer = Passed }
-replyTo todo.Sum w = record { watch = w; answer = Passed }
+abbrev pub replyTo : Task → Watch → Reply
+replyTo (task.Refused r) w = record { watch = w; answer = Refused r }
+replyTo task.Nothing w = record { watch = w; answer = Passed }
+replyTo (task.Hear x) w = record { watch = w; answer = Passed }
+replyTo (task.Plan p) w = record { watch = w; answer = Passed }
+replyTo (task.Own s) w = record { watch = record { present = w .present; channel = w .channel; ship = s }; answer = Set }
+replyTo (task.Choose a) w = record { watch = w; answer = Passed }
+replyTo (task.Report t) w = record { watch = w; answer = Passed }
+replyTo task.New w = record { watch = w; answer = Passed }
+replyTo task.Sum w = record { watch = w; answer = Passed }
 
 unfoldable pub aloneReply : Case → Reply
-aloneReply c = replyTo (c .todo) (c .watch)
+aloneReply c = replyTo (c .task) (c .watch)

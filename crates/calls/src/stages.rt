@@ -19,7 +19,7 @@ ghost use Rattle.choosing.specs.Owning.{owningOf};
 ghost use Rattle.plan.specs.Plan.{InRange};
 ghost use Rattle.calls.specs.Stages.{Sized, Fit, started, PassesOne, recased, passOut, older, isHear, hearingOf, Sought, announcedOut, enteredOut, isChoose, Asks, queryOf, Draws, drawnOut, isNew, clearedOut, noSums, SumFits, sumWith, sumsIn, Replans, reportedReply, RestNeeds, restBy, isRest, doneOut, agedOut, carriedOut};
 use crate::told::Case;
-use crate::told::Todo;
+use crate::told::Task;
 use crate::told::with_ship;
 use book::Channel;
 use book::Handing;
@@ -116,7 +116,7 @@ fn moved_on(c: Case, t: Turn) -> Case
     let ship = watch.ship;
     let handing = t.handing;
     let counts = handing.counts;
-    let todo = c.todo;
+    let task = c.task;
     Case {
         watch: Watch {
             present: t.at,
@@ -124,7 +124,7 @@ fn moved_on(c: Case, t: Turn) -> Case
             ship,
         },
         passes: c.passes,
-        todo,
+        task,
     }
 }
 
@@ -168,11 +168,11 @@ fn age(reg: &mut [Station], c: Case)
 // ---- hearing
 
 fn is_hear(c: Case) -> bool
-    ensures { λ r. ⌜ r ≡ isHear (c .todo) ⌝ }
+    ensures { λ r. ⌜ r ≡ isHear (c .task) ⌝ }
 {
-    let todo = c.todo;
-    match todo {
-        Todo::Hear(_) => true,
+    let task = c.task;
+    match task {
+        Task::Hear(_) => true,
         _ => false,
     }
 }
@@ -182,9 +182,9 @@ fn hearing_of(book: &[u16], c: Case) -> Hearing
     ensures { λ r. ⌜ r ≡ hearingOf c ⌝ }
 {
     let watch = c.watch;
-    let todo = c.todo;
-    match todo {
-        Todo::Hear(telling) => Hearing { watch, telling },
+    let task = c.task;
+    match task {
+        Task::Hear(telling) => Hearing { watch, telling },
         _ => {
             let telling = tell(Message::Other);
             Hearing { watch, telling }
@@ -226,7 +226,7 @@ fn enter(reg: &mut [Station], book: &mut [u16], b: Booking) -> Reply
 }
 
 fn hear(reg: &mut [Station], book: &mut [u16], c: Case) -> Reply
-    requires { ⌜ Fit (now reg) (now book) c × (isHear (c .todo) ≡ true) ⌝ }
+    requires { ⌜ Fit (now reg) (now book) c × (isHear (c .task) ≡ true) ⌝ }
     ensures { λ r. ⌜ Ends (doneOut c (now (reg .entry)) (now (book .entry))) r (now (reg .exit)) (now (book .exit)) ⌝ }
 {
     let b = seek(reg, book, c);
@@ -236,11 +236,11 @@ fn hear(reg: &mut [Station], book: &mut [u16], c: Case) -> Reply
 // ---- choosing
 
 fn is_choose(c: Case) -> bool
-    ensures { λ r. ⌜ r ≡ isChoose (c .todo) ⌝ }
+    ensures { λ r. ⌜ r ≡ isChoose (c .task) ⌝ }
 {
-    let todo = c.todo;
-    match todo {
-        Todo::Choose(_) => true,
+    let task = c.task;
+    match task {
+        Task::Choose(_) => true,
         _ => false,
     }
 }
@@ -250,9 +250,9 @@ fn query_of(book: &[u16], c: Case) -> Query
     ensures { λ r. ⌜ r ≡ queryOf (now (book .entry)) c ⌝ }
 {
     let watch = c.watch;
-    let todo = c.todo;
-    match todo {
-        Todo::Choose(a) => ask(book, watch, a),
+    let task = c.task;
+    match task {
+        Task::Choose(a) => ask(book, watch, a),
         _ => Query {
             watch,
             window: Window {
@@ -278,7 +278,7 @@ fn draw_slot(book: &mut [u16], q: Query, b: Best) -> Owning
 
 // The slot is drawn, from the book and, where it is needed, from the register.
 fn seek_slot(reg: &mut [Station], book: &mut [u16], c: Case) -> Owning
-    requires { ⌜ Fit (now reg) (now book) c × (isChoose (c .todo) ≡ true) ⌝ }
+    requires { ⌜ Fit (now reg) (now book) c × (isChoose (c .task) ≡ true) ⌝ }
     ensures { λ r. ⌜ Ends (drawnOut c (now (reg .entry)) (now (book .entry))) r (now (reg .exit)) (now (book .exit)) ⌝ }
 {
     let q = query_of(book, c);
@@ -287,7 +287,7 @@ fn seek_slot(reg: &mut [Station], book: &mut [u16], c: Case) -> Owning
 }
 
 fn choose(reg: &mut [Station], book: &mut [u16], c: Case) -> Reply
-    requires { ⌜ Fit (now reg) (now book) c × (isChoose (c .todo) ≡ true) ⌝ }
+    requires { ⌜ Fit (now reg) (now book) c × (isChoose (c .task) ≡ true) ⌝ }
     ensures { λ r. ⌜ Ends (doneOut c (now (reg .entry)) (now (book .entry))) r (now (reg .exit)) (now (book .exit)) ⌝ }
 {
     let o = seek_slot(reg, book, c);
@@ -297,11 +297,11 @@ fn choose(reg: &mut [Station], book: &mut [u16], c: Case) -> Reply
 // ---- a new book and register
 
 fn is_new(c: Case) -> bool
-    ensures { λ r. ⌜ r ≡ isNew (c .todo) ⌝ }
+    ensures { λ r. ⌜ r ≡ isNew (c .task) ⌝ }
 {
-    let todo = c.todo;
-    match todo {
-        Todo::New => true,
+    let task = c.task;
+    match task {
+        Task::New => true,
         _ => false,
     }
 }
@@ -343,7 +343,7 @@ fn new_book(reg: &mut [Station], book: &mut [u16], c: Case) -> Reply
 }
 
 fn begin(reg: &mut [Station], book: &mut [u16], c: Case) -> Reply
-    requires { ⌜ Fit (now reg) (now book) c × (isNew (c .todo) ≡ true) ⌝ }
+    requires { ⌜ Fit (now reg) (now book) c × (isNew (c .task) ≡ true) ⌝ }
     ensures { λ r. ⌜ Ends (doneOut c (now (reg .entry)) (now (book .entry))) r (now (reg .exit)) (now (book .exit)) ⌝ }
 {
     renew(reg, c);
@@ -442,25 +442,25 @@ fn reported(book: &[u16], watch: Watch, n: Sums, t: Time) -> Reply
 
 fn rest_of(book: &mut [u16], c: Case, n: Sums) -> Reply
     requires { ⌜ RestNeeds (now book) c n ⌝ }
-    ensures { λ r. ⌜ restBy (c .todo) c n (now (book .entry)) r (now (book .exit)) ⌝ }
+    ensures { λ r. ⌜ restBy (c .task) c n (now (book .entry)) r (now (book .exit)) ⌝ }
 {
     let watch = c.watch;
-    let todo = c.todo;
-    match todo {
-        Todo::Refused(r) => reply(watch, Answer::Refused(r)),
-        Todo::Plan(p) => replanned(book, watch, p),
-        Todo::Own(s) => {
+    let task = c.task;
+    match task {
+        Task::Refused(r) => reply(watch, Answer::Refused(r)),
+        Task::Plan(p) => replanned(book, watch, p),
+        Task::Own(s) => {
             let set = with_ship(watch, s);
             reply(set, Answer::Set)
         }
-        Todo::Report(t) => reported(book, watch, n, t),
-        Todo::Sum => reply(watch, Answer::Sum(n.total)),
+        Task::Report(t) => reported(book, watch, n, t),
+        Task::Sum => reply(watch, Answer::Sum(n.total)),
         _ => reply(watch, Answer::Passed),
     }
 }
 
 fn rest(reg: &mut [Station], book: &mut [u16], c: Case) -> Reply
-    requires { ⌜ Fit (now reg) (now book) c × (isRest (c .todo) ≡ true) ⌝ }
+    requires { ⌜ Fit (now reg) (now book) c × (isRest (c .task) ≡ true) ⌝ }
     ensures { λ r. ⌜ Ends (doneOut c (now (reg .entry)) (now (book .entry))) r (now (reg .exit)) (now (book .exit)) ⌝ }
 {
     let d = same(book, c);
@@ -471,7 +471,7 @@ fn rest(reg: &mut [Station], book: &mut [u16], c: Case) -> Reply
 // ---- what is left to be done
 
 fn begin_or_rest(reg: &mut [Station], book: &mut [u16], c: Case) -> Reply
-    requires { ⌜ Fit (now reg) (now book) c × (isHear (c .todo) ≡ false) × (isChoose (c .todo) ≡ false) ⌝ }
+    requires { ⌜ Fit (now reg) (now book) c × (isHear (c .task) ≡ false) × (isChoose (c .task) ≡ false) ⌝ }
     ensures { λ r. ⌜ Ends (doneOut c (now (reg .entry)) (now (book .entry))) r (now (reg .exit)) (now (book .exit)) ⌝ }
 {
     if is_new(c) {
@@ -481,7 +481,7 @@ fn begin_or_rest(reg: &mut [Station], book: &mut [u16], c: Case) -> Reply
 }
 
 fn choose_or_rest(reg: &mut [Station], book: &mut [u16], c: Case) -> Reply
-    requires { ⌜ Fit (now reg) (now book) c × (isHear (c .todo) ≡ false) ⌝ }
+    requires { ⌜ Fit (now reg) (now book) c × (isHear (c .task) ≡ false) ⌝ }
     ensures { λ r. ⌜ Ends (doneOut c (now (reg .entry)) (now (book .entry))) r (now (reg .exit)) (now (book .exit)) ⌝ }
 {
     if is_choose(c) {

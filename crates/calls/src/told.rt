@@ -1,6 +1,6 @@
 // What a call comes to, as far as the lengths, the bytes and the watch tell: refused, or to be done. Promise: as specs/Told.antt says.
 ghost use mathlib.Core.Path.{_≡_};
-ghost use Rattle.calls.specs.Told.{fitting, heardTodo, tellingTodo, planTodo, ownTodo, chooseTodo, reportTodo, fitTodo, todoOf, toldOf, isReady, aloneReply};
+ghost use Rattle.calls.specs.Told.{fitting, heardTask, tellingTask, planTask, ownTask, chooseTask, reportTask, fitTask, taskOf, toldOf, isReady, aloneReply};
 use crate::Ask;
 use crate::What;
 use book::Watch;
@@ -26,7 +26,7 @@ const LEAST_TIME_OUT: u16 = limits::LEAST_TIME_OUT as u16;
 const MOST_TIME_OUT: u16 = limits::MOST_TIME_OUT as u16;
 
 // What is left to be done.
-pub enum Todo {
+pub enum Task {
     Refused(Refusal),
     Nothing,
     Hear(Telling),
@@ -42,7 +42,7 @@ pub enum Todo {
 pub struct Case {
     pub watch: Watch,
     pub passes: u16,
-    pub todo: Todo,
+    pub task: Task,
 }
 
 fn fitting(n: usize, m: usize) -> bool
@@ -55,122 +55,122 @@ fn fitting(n: usize, m: usize) -> bool
 }
 
 // 20, 21, 22.
-fn telling_todo(x: Telling, own: u32, fits: bool) -> Todo
-    ensures { λ r. ⌜ r ≡ tellingTodo fits own x ⌝ }
+fn telling_task(x: Telling, own: u32, fits: bool) -> Task
+    ensures { λ r. ⌜ r ≡ tellingTask fits own x ⌝ }
 {
     if !fits {
-        return Todo::Refused(Refusal::OtherLength);
+        return Task::Refused(Refusal::OtherLength);
     }
     if !fair(x.source, own) {
-        return Todo::Refused(Refusal::BadSource);
+        return Task::Refused(Refusal::BadSource);
     }
     if x.repeat > 0 {
-        return Todo::Refused(Refusal::Repeated);
+        return Task::Refused(Refusal::Repeated);
     }
-    Todo::Hear(x)
+    Task::Hear(x)
 }
 
 // 17, 18 before all others.
-fn heard_todo(bytes: &[u8], own: u32, fits: bool) -> Todo
-    ensures { λ r. ⌜ r ≡ heardTodo fits own (now (bytes .entry)) ⌝ }
+fn heard_task(bytes: &[u8], own: u32, fits: bool) -> Task
+    ensures { λ r. ⌜ r ≡ heardTask fits own (now (bytes .entry)) ⌝ }
 {
     let received = read(bytes);
     match received {
-        Received::Refused(r) => Todo::Refused(r),
+        Received::Refused(r) => Task::Refused(r),
         Received::Message(m) => {
             let x = tell(m);
-            telling_todo(x, own, fits)
+            telling_task(x, own, fits)
         }
     }
 }
 
 // 20, 30.
-fn plan_todo(p: Plan, fits: bool) -> Todo
-    ensures { λ r. ⌜ r ≡ planTodo fits p ⌝ }
+fn plan_task(p: Plan, fits: bool) -> Task
+    ensures { λ r. ⌜ r ≡ planTask fits p ⌝ }
 {
     if !fits {
-        return Todo::Refused(Refusal::OtherLength);
+        return Task::Refused(Refusal::OtherLength);
     }
     if !p.good() {
-        return Todo::Refused(Refusal::OutOfRange);
+        return Task::Refused(Refusal::OutOfRange);
     }
-    Todo::Plan(p)
+    Task::Plan(p)
 }
 
 // 21, 30, whatever the lengths.
-fn own_todo(s: Ship) -> Todo
-    ensures { λ r. ⌜ r ≡ ownTodo s ⌝ }
+fn own_task(s: Ship) -> Task
+    ensures { λ r. ⌜ r ≡ ownTask s ⌝ }
 {
     let owned = ship::own(s.source, s.latitude, s.longitude);
     match owned {
-        Owned::Refused(r) => Todo::Refused(r),
-        Owned::Done(t) => Todo::Own(t),
+        Owned::Refused(r) => Task::Refused(r),
+        Owned::Done(t) => Task::Own(t),
     }
 }
 
 // 20, 31, 30.
-fn choose_todo(p: Plan, a: Wanted, fits: bool) -> Todo
-    ensures { λ r. ⌜ r ≡ chooseTodo fits p a ⌝ }
+fn choose_task(p: Plan, a: Wanted, fits: bool) -> Task
+    ensures { λ r. ⌜ r ≡ chooseTask fits p a ⌝ }
 {
     if !fits {
-        return Todo::Refused(Refusal::OtherLength);
+        return Task::Refused(Refusal::OtherLength);
     }
     if !p.good() {
-        return Todo::Refused(Refusal::NoPlan);
+        return Task::Refused(Refusal::NoPlan);
     }
     if a.k >= p.rate {
-        return Todo::Refused(Refusal::OutOfRange);
+        return Task::Refused(Refusal::OutOfRange);
     }
     if a.timeout < LEAST_TIME_OUT {
-        return Todo::Refused(Refusal::OutOfRange);
+        return Task::Refused(Refusal::OutOfRange);
     }
     if a.timeout > MOST_TIME_OUT {
-        return Todo::Refused(Refusal::OutOfRange);
+        return Task::Refused(Refusal::OutOfRange);
     }
-    Todo::Choose(a)
+    Task::Choose(a)
 }
 
 // 20, 31, 30.
-fn report_todo(p: Plan, t: Time, fits: bool) -> Todo
-    ensures { λ r. ⌜ r ≡ reportTodo fits p t ⌝ }
+fn report_task(p: Plan, t: Time, fits: bool) -> Task
+    ensures { λ r. ⌜ r ≡ reportTask fits p t ⌝ }
 {
     if !fits {
-        return Todo::Refused(Refusal::OtherLength);
+        return Task::Refused(Refusal::OtherLength);
     }
     if !p.good() {
-        return Todo::Refused(Refusal::NoPlan);
+        return Task::Refused(Refusal::NoPlan);
     }
     if !reporting::fits(t) {
-        return Todo::Refused(Refusal::OutOfRange);
+        return Task::Refused(Refusal::OutOfRange);
     }
-    Todo::Report(t)
+    Task::Report(t)
 }
 
 // 20 alone.
-fn fit_todo(todo: Todo, fits: bool) -> Todo
-    ensures { λ r. ⌜ r ≡ fitTodo fits todo ⌝ }
+fn fit_task(task: Task, fits: bool) -> Task
+    ensures { λ r. ⌜ r ≡ fitTask fits task ⌝ }
 {
     if !fits {
-        return Todo::Refused(Refusal::OtherLength);
+        return Task::Refused(Refusal::OtherLength);
     }
-    todo
+    task
 }
 
-fn todo_of(bytes: &[u8], watch: Watch, what: What, fits: bool) -> Todo
-    ensures { λ r. ⌜ r ≡ todoOf fits watch (now (bytes .entry)) what ⌝ }
+fn task_of(bytes: &[u8], watch: Watch, what: What, fits: bool) -> Task
+    ensures { λ r. ⌜ r ≡ taskOf fits watch (now (bytes .entry)) what ⌝ }
 {
     let ship = watch.ship;
     let channel = watch.channel;
     let plan = channel.plan;
     match what {
-        What::Nothing => fit_todo(Todo::Nothing, fits),
-        What::Hear => heard_todo(bytes, ship.source, fits),
-        What::Plan(p) => plan_todo(p, fits),
-        What::Own(s) => own_todo(s),
-        What::Choose(a) => choose_todo(plan, a, fits),
-        What::Report(t) => report_todo(plan, t, fits),
-        What::New => fit_todo(Todo::New, fits),
-        What::Sum => fit_todo(Todo::Sum, fits),
+        What::Nothing => fit_task(Task::Nothing, fits),
+        What::Hear => heard_task(bytes, ship.source, fits),
+        What::Plan(p) => plan_task(p, fits),
+        What::Own(s) => own_task(s),
+        What::Choose(a) => choose_task(plan, a, fits),
+        What::Report(t) => report_task(plan, t, fits),
+        What::New => fit_task(Task::New, fits),
+        What::Sum => fit_task(Task::Sum, fits),
     }
 }
 
@@ -186,15 +186,15 @@ pub fn told(n: usize, m: usize, bytes: &[u8], x: Ask) -> Case
             return Case {
                 watch,
                 passes: 0,
-                todo: Todo::Refused(Refusal::OtherLength),
+                task: Task::Refused(Refusal::OtherLength),
             };
         }
     }
-    let todo = todo_of(bytes, watch, what, fits);
+    let task = task_of(bytes, watch, what, fits);
     Case {
         watch,
         passes: x.passes,
-        todo,
+        task,
     }
 }
 
@@ -205,10 +205,10 @@ pub fn ready(c: Case) -> bool
     if c.passes > 0 {
         return true;
     }
-    let todo = c.todo;
-    match todo {
-        Todo::Refused(_) => false,
-        Todo::Own(_) => false,
+    let task = c.task;
+    match task {
+        Task::Refused(_) => false,
+        Task::Own(_) => false,
         _ => true,
     }
 }
@@ -230,13 +230,13 @@ pub fn alone(c: Case) -> Reply
     ensures { λ r. ⌜ r ≡ aloneReply c ⌝ }
 {
     let watch = c.watch;
-    let todo = c.todo;
-    match todo {
-        Todo::Refused(r) => Reply {
+    let task = c.task;
+    match task {
+        Task::Refused(r) => Reply {
             watch,
             answer: Answer::Refused(r),
         },
-        Todo::Own(s) => {
+        Task::Own(s) => {
             let set = with_ship(watch, s);
             Reply {
                 watch: set,

@@ -33,7 +33,7 @@ begin-spec 𝓤 H 𝓜 𝓖 𝓡 =
     (tables 𝓤 H 𝓜 𝓡 code.env .C) (tables 𝓤 H 𝓜 𝓡 code.env .Λ) #f code.function (code.unfolded 𝓤 H 𝓜 𝓡)
     (meets CaseD CaseL ReplyD ReplyL (λ ys c. length ys ≡ records) (λ ys c. map (λ (s : Station). blank) ys)
     (λ ys bs c. Sized ys bs) (λ c ys bs r zs cs. Ends (clearedOut ys bs) r zs cs)
-    (λ ys bs c. Fit ys bs c × (isNew (c .todo) ≡ true)) (λ c ys bs r zs cs. Ends (doneOut c ys bs) r zs cs)
+    (λ ys bs c. Fit ys bs c × (isNew (c .task) ≡ true)) (λ c ys bs r zs cs. Ends (doneOut c ys bs) r zs cs)
     (λ ys bs c n. n .0 .sized .register) (λ ys bs c n lu. record { register = lu ∙ n .0 .sized .register; size = n .0 .sized .size })
     (λ ys bs c r zs cs n e lu lz lc. begun-is c ys bs r zs cs (n .0 .sized) (n .1) e) u-def.name h-def.name
     𝓤 H (𝓖 .A) (givenOf 𝓤 H 𝓜 𝓖) (tablesOf 𝓤 H 𝓜 (tables 𝓤 H 𝓜 𝓡 code.env))

@@ -29,10 +29,10 @@ unfolding code.routine tablesOf
 begin-or-rest-spec 𝓤 H 𝓜 𝓖 𝓡 =
     entered 𝓤 H (tripleOf 𝓤 H (𝓖 .A) f.signature (f.spec 𝓤 H (𝓖 .A) (𝓜 .mem) (𝓡 .run)))
     (tables 𝓤 H 𝓜 𝓡 code.env .C) (tables 𝓤 H 𝓜 𝓡 code.env .Λ) #f code.function (code.unfolded 𝓤 H 𝓜 𝓡)
-    (meets CaseD CaseL ReplyD ReplyL (λ c. isNew (c .todo)) (λ ys bs c. Fit ys bs c × (isNew (c .todo) ≡ true)) (λ c ys bs r zs cs. Ends (doneOut c ys bs) r zs cs)
-    (λ ys bs c. Fit ys bs c × (isRest (c .todo) ≡ true)) (λ c ys bs r zs cs. Ends (doneOut c ys bs) r zs cs)
-    (λ ys bs c. Fit ys bs c × (isHear (c .todo) ≡ false) × (isChoose (c .todo) ≡ false)) (λ c ys bs r zs cs. Ends (doneOut c ys bs) r zs cs)
-    (λ ys bs c n e. (n .0, e)) (λ ys bs c n e. (n .0, rest-else (c .todo) (n .1) (n .2) e))
+    (meets CaseD CaseL ReplyD ReplyL (λ c. isNew (c .task)) (λ ys bs c. Fit ys bs c × (isNew (c .task) ≡ true)) (λ c ys bs r zs cs. Ends (doneOut c ys bs) r zs cs)
+    (λ ys bs c. Fit ys bs c × (isRest (c .task) ≡ true)) (λ c ys bs r zs cs. Ends (doneOut c ys bs) r zs cs)
+    (λ ys bs c. Fit ys bs c × (isHear (c .task) ≡ false) × (isChoose (c .task) ≡ false)) (λ c ys bs r zs cs. Ends (doneOut c ys bs) r zs cs)
+    (λ ys bs c n e. (n .0, e)) (λ ys bs c n e. (n .0, rest-else (c .task) (n .1) (n .2) e))
     (λ ys bs c r zs cs n e f lz lc. f) (λ ys bs c r zs cs n e f lz lc. f) t-def.name g-def.name h-def.name
     𝓤 H (𝓖 .A) (givenOf 𝓤 H 𝓜 𝓖) (tablesOf 𝓤 H 𝓜 (tables 𝓤 H 𝓜 𝓡 code.env))
     (cited 𝓤 H (tripleOf 𝓤 H (𝓖 .A) t.signature (t.spec 𝓤 H (𝓖 .A) (𝓜 .mem) (𝓡 .run))) 𝓜 𝓡 code.env

@@ -27,9 +27,9 @@ unfolding code.routine tablesOf
 choose-spec 𝓤 H 𝓜 𝓖 𝓡 =
     entered 𝓤 H (tripleOf 𝓤 H (𝓖 .A) f.signature (f.spec 𝓤 H (𝓖 .A) (𝓜 .mem) (𝓡 .run)))
     (tables 𝓤 H 𝓜 𝓡 code.env .C) (tables 𝓤 H 𝓜 𝓡 code.env .Λ) #f code.function (code.unfolded 𝓤 H 𝓜 𝓡)
-    (meets CaseD CaseL OwningD OwningL ReplyD ReplyL (λ ys bs c. Fit ys bs c × (isChoose (c .todo) ≡ true)) (λ c ys bs r zs cs. Ends (drawnOut c ys bs) r zs cs)
+    (meets CaseD CaseL OwningD OwningL ReplyD ReplyL (λ ys bs c. Fit ys bs c × (isChoose (c .task) ≡ true)) (λ c ys bs r zs cs. Ends (drawnOut c ys bs) r zs cs)
     Owns (λ o ys bs r zs cs. Ends (ownedOut o ys bs) r zs cs)
-    (λ ys bs c. Fit ys bs c × (isChoose (c .todo) ≡ true)) (λ c ys bs r zs cs. Ends (doneOut c ys bs) r zs cs)
+    (λ ys bs c. Fit ys bs c × (isChoose (c .task) ≡ true)) (λ c ys bs r zs cs. Ends (doneOut c ys bs) r zs cs)
     (λ ys bs c n. n) (λ ys bs c o zs cs n e lz lc. owns-fits c ys bs o zs cs (n .0 .sized) e)
     (λ ys bs c o zs cs r zs′ cs′ n e f lz lc mz mc. chosen-is c ys bs o zs cs r zs′ cs′ (n .0) (n .1) e f) g-def.name h-def.name
     𝓤 H (𝓖 .A) (givenOf 𝓤 H 𝓜 𝓖) (tablesOf 𝓤 H 𝓜 (tables 𝓤 H 𝓜 𝓡 code.env))

@@ -28,9 +28,9 @@ unfolding code.routine tablesOf
 choose-or-rest-spec 𝓤 H 𝓜 𝓖 𝓡 =
     entered 𝓤 H (tripleOf 𝓤 H (𝓖 .A) f.signature (f.spec 𝓤 H (𝓖 .A) (𝓜 .mem) (𝓡 .run)))
     (tables 𝓤 H 𝓜 𝓡 code.env .C) (tables 𝓤 H 𝓜 𝓡 code.env .Λ) #f code.function (code.unfolded 𝓤 H 𝓜 𝓡)
-    (meets CaseD CaseL ReplyD ReplyL (λ c. isChoose (c .todo)) (λ ys bs c. Fit ys bs c × (isChoose (c .todo) ≡ true)) (λ c ys bs r zs cs. Ends (doneOut c ys bs) r zs cs)
-    (λ ys bs c. Fit ys bs c × (isHear (c .todo) ≡ false) × (isChoose (c .todo) ≡ false)) (λ c ys bs r zs cs. Ends (doneOut c ys bs) r zs cs)
-    (λ ys bs c. Fit ys bs c × (isHear (c .todo) ≡ false)) (λ c ys bs r zs cs. Ends (doneOut c ys bs) r zs cs)
+    (meets CaseD CaseL ReplyD ReplyL (λ c. isChoose (c .task)) (λ ys bs c. Fit ys bs c × (isChoose (c .task) ≡ true)) (λ c ys bs r zs cs. Ends (doneOut c ys bs) r zs cs)
+    (λ ys bs c. Fit ys bs c × (isHear (c .task) ≡ false) × (isChoose (c .task) ≡ false)) (λ c ys bs r zs cs. Ends (doneOut c ys bs) r zs cs)
+    (λ ys bs c. Fit ys bs c × (isHear (c .task) ≡ false)) (λ c ys bs r zs cs. Ends (doneOut c ys bs) r zs cs)
     (λ ys bs c n e. (n .0, e)) (λ ys bs c n e. (n .0, n .1, e))
     (λ ys bs c r zs cs n e f lz lc. f) (λ ys bs c r zs cs n e f lz lc. f) t-def.name g-def.name h-def.name
     𝓤 H (𝓖 .A) (givenOf 𝓤 H 𝓜 𝓖) (tablesOf 𝓤 H 𝓜 (tables 𝓤 H 𝓜 𝓡 code.env))

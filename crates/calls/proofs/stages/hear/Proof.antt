@@ -28,7 +28,7 @@ hear-spec 𝓤 H 𝓜 𝓖 𝓡 =
     entered 𝓤 H (tripleOf 𝓤 H (𝓖 .A) f.signature (f.spec 𝓤 H (𝓖 .A) (𝓜 .mem) (𝓡 .run)))
     (tables 𝓤 H 𝓜 𝓡 code.env .C) (tables 𝓤 H 𝓜 𝓡 code.env .Λ) #f code.function (code.unfolded 𝓤 H 𝓜 𝓡)
     (meets CaseD CaseL BookingD BookingL ReplyD ReplyL (λ ys bs c. Sized ys bs) Sought Booked (λ b ys bs r zs cs. Ends (enteredOut b ys bs) r zs cs)
-    (λ ys bs c. Fit ys bs c × (isHear (c .todo) ≡ true)) (λ c ys bs r zs cs. Ends (doneOut c ys bs) r zs cs)
+    (λ ys bs c. Fit ys bs c × (isHear (c .task) ≡ true)) (λ c ys bs r zs cs. Ends (doneOut c ys bs) r zs cs)
     (λ ys bs c n. n .0 .sized) (λ ys bs c b zs cs n s lz lc. sought-fits c ys bs b zs cs (n .0 .sized) s)
     (λ ys bs c b zs cs r zs′ cs′ n s e lz lc mz mc. heard-is c ys bs b zs cs r zs′ cs′ (n .0 .sized) (n .1) s e) g-def.name h-def.name
     𝓤 H (𝓖 .A) (givenOf 𝓤 H 𝓜 𝓖) (tablesOf 𝓤 H 𝓜 (tables 𝓤 H 𝓜 𝓡 code.env))

@@ -6,7 +6,7 @@ use Rattle.calls.proofs.stages.is_choose.Statement.{statement}
 use Rattle.calls.proofs.stages.is_choose.Tie as tie
 
 returns-2 : tie.Need-returns-2
-returns-2 c = not-choose (c .before .args .c .todo) (c .match .keys2)
+returns-2 c = not-choose (c .before .args .c .task) (c .match .keys2)
 
 pub is-choose-spec : {M : Type 1} → statement M
 is-choose-spec =

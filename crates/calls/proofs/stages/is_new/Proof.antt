@@ -6,7 +6,7 @@ use Rattle.calls.proofs.stages.is_new.Statement.{statement}
 use Rattle.calls.proofs.stages.is_new.Tie as tie
 
 returns-2 : tie.Need-returns-2
-returns-2 c = not-new (c .before .args .c .todo) (c .match .keys2)
+returns-2 c = not-new (c .before .args .c .task) (c .match .keys2)
 
 pub is-new-spec : {M : Type 1} → statement M
 is-new-spec =

@@ -32,8 +32,8 @@ rest-spec 𝓤 H 𝓜 𝓖 𝓡 =
     entered 𝓤 H (tripleOf 𝓤 H (𝓖 .A) f.signature (f.spec 𝓤 H (𝓖 .A) (𝓜 .mem) (𝓡 .run)))
     (tables 𝓤 H 𝓜 𝓡 code.env .C) (tables 𝓤 H 𝓜 𝓡 code.env .Λ) #f code.function (code.unfolded 𝓤 H 𝓜 𝓡)
     (meets CaseD CaseL CaseD CaseL SumsD SumsL ReplyD ReplyL (λ bs c. length bs ≡ slotTimes) (λ bs c. c) (λ ys c. length ys ≡ records) (λ ys c. sumsIn ys)
-    RestNeeds (λ bs c n r cs. restBy (c .todo) c n bs r cs)
-    (λ ys bs c. Fit ys bs c × (isRest (c .todo) ≡ true)) (λ c ys bs r zs cs. Ends (doneOut c ys bs) r zs cs)
+    RestNeeds (λ bs c n r cs. restBy (c .task) c n bs r cs)
+    (λ ys bs c. Fit ys bs c × (isRest (c .task) ≡ true)) (λ c ys bs r zs cs. Ends (doneOut c ys bs) r zs cs)
     (λ ys bs c n. n .0 .sized .size) (λ ys bs c n. n .0 .sized .register) (λ ys bs c n. rest-needs c ys bs (n .0))
     (λ ys bs c r cs n e lc. rest-is c ys bs r cs (n .0 .sized) (n .1) e) first-def.name look-def.name last-def.name
     𝓤 H (𝓖 .A) (givenOf 𝓤 H 𝓜 𝓖) (tablesOf 𝓤 H 𝓜 (tables 𝓤 H 𝓜 𝓡 code.env))

@@ -9,37 +9,37 @@ use Rattle.calls.proofs.stages.rest_of.Tie as tie
 reported-requires : tie.Need-reported-requires
 reported-requires c κs =
     let s = c .before .before .before .before .before .before in
-    (s .pre .size, s .pre .few, fit-report (s .args .c .todo) (s .args .c .watch .channel .plan) _ (c .before .before .todo4 .given .1) (s .pre .fits))
+    (s .pre .size, s .pre .few, fit-report (s .args .c .task) (s .args .c .watch .channel .plan) _ (c .before .before .task4 .given .1) (s .pre .fits))
 
 returns : tie.Need-returns
 returns c =
     let a = c .before .before .before .before .before .before .args in
-    rest-refused (a .c .todo) (a .c) (a .n) (a .book .now) (c .reply .result) _ _ (c .before .before .todo .given .1) (c .reply .ensures, refl)
+    rest-refused (a .c .task) (a .c) (a .n) (a .book .now) (c .reply .result) _ _ (c .before .before .task .given .1) (c .reply .ensures, refl)
 
 returns-2 : tie.Need-returns-2
 returns-2 c =
     let a = c .before .before .before .before .before .before .before .before .before .args in
-    rest-plan (a .c .todo) (a .c) (a .n) (a .book .now) (c .before .before .replanned .result) _ _ (c .before .before .before .before .before .todo2 .given .1) (c .before .before .replanned .ensures)
+    rest-plan (a .c .task) (a .c) (a .n) (a .book .now) (c .before .before .replanned .result) _ _ (c .before .before .before .before .before .task2 .given .1) (c .before .before .replanned .ensures)
 
 returns-3 : tie.Need-returns-3
 returns-3 c =
     let a = c .before .before .before .before .before .before .before .args in
-    rest-own (a .c .todo) (a .c) (a .n) (a .book .now) (c .reply2 .result) _ _ (c .before .before .before .todo3 .given .1) (rw (c .reply2 .ensures, c .before .with-ship .ensures), refl)
+    rest-own (a .c .task) (a .c) (a .n) (a .book .now) (c .reply2 .result) _ _ (c .before .before .before .task3 .given .1) (rw (c .reply2 .ensures, c .before .with-ship .ensures), refl)
 
 returns-4 : tie.Need-returns-4
 returns-4 c =
     let a = c .before .before .before .before .before .before .before .args in
-    rest-report (a .c .todo) (a .c) (a .n) (a .book .now) (c .reported .result) _ _ (c .before .before .before .todo4 .given .1) (c .reported .ensures, refl)
+    rest-report (a .c .task) (a .c) (a .n) (a .book .now) (c .reported .result) _ _ (c .before .before .before .task4 .given .1) (c .reported .ensures, refl)
 
 returns-5 : tie.Need-returns-5
 returns-5 c =
     let a = c .before .before .before .before .before .args in
-    rest-sum (a .c .todo) (a .c) (a .n) (a .book .now) (c .reply3 .result) _ (c .before .before .match .keys5) (c .reply3 .ensures, refl)
+    rest-sum (a .c .task) (a .c) (a .n) (a .book .now) (c .reply3 .result) _ (c .before .before .match .keys5) (c .reply3 .ensures, refl)
 
 returns-6 : tie.Need-returns-6
 returns-6 c =
     let a = c .before .before .before .before .args in
-    rest-other (a .c .todo) (a .c) (a .n) (a .book .now) (c .reply4 .result) _ (c .before .match .keys6) (c .reply4 .ensures, refl)
+    rest-other (a .c .task) (a .c) (a .n) (a .book .now) (c .reply4 .result) _ (c .before .match .keys6) (c .reply4 .ensures, refl)
 
 pub rest-of-spec : {M : Type 1} → statement M
 rest-of-spec =

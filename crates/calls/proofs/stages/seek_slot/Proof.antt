@@ -38,7 +38,7 @@ seek-slot-spec 𝓤 H 𝓜 𝓖 𝓡 =
     (meets CaseD CaseL QueryD QueryL BestD BestL OwningD OwningL Asks queryOf
     (λ ys bs q. 0 < turnsOf q → ((length ys ≡ records) × ((length bs ≡ slotTimes) × ((q .window .first ≤ frameSlots) × ((q .window .timeout < mostTimeOut + 1) × (q .window .width ≤ widest))))))
     scanned (λ bs q b. Draws bs q) (λ bs q b r cs. (r ≡ owningOf q (judged bs q b)) × (cs ≡ bs))
-    (λ ys bs c. Fit ys bs c × (isChoose (c .todo) ≡ true)) (λ c ys bs r zs cs. Ends (drawnOut c ys bs) r zs cs)
+    (λ ys bs c. Fit ys bs c × (isChoose (c .task) ≡ true)) (λ c ys bs r zs cs. Ends (drawnOut c ys bs) r zs cs)
     (λ ys bs c n. record { size = n .0 .sized .size; fits = n .0 .fits })
     (λ ys bs c n some. let d = drawn-fits c ys bs (n .0) (n .1) in (n .0 .sized .register, (n .0 .sized .size, (d .first, (d .few, d .width)))))
     (λ ys bs c n. drawn-fits c ys bs (n .0) (n .1)) (λ ys bs c r cs n e lc. record { answers = e .0; leaves = refl; writes = e .1 }) first-def.name look-def.name last-def.name

@@ -4,10 +4,10 @@ use Rattle.calls.proofs.told.alone.Statement.{statement}
 use Rattle.calls.proofs.told.alone.Tie as tie
 
 returns : tie.Need-returns
-returns c = alone-refused (c .before .before .before .before .args .c) _ (c .before .todo .given .1)
+returns c = alone-refused (c .before .before .before .before .args .c) _ (c .before .task .given .1)
 
 returns-2 : tie.Need-returns-2
-returns-2 c = alone-own (c .before .before .before .before .before .args .c) _ _ (c .before .before .todo2 .given .1) (c .with-ship .ensures)
+returns-2 c = alone-own (c .before .before .before .before .before .args .c) _ _ (c .before .before .task2 .given .1) (c .with-ship .ensures)
 
 returns-3 : tie.Need-returns-3
 returns-3 c = alone-other (c .before .before .args .c) (c .match .keys3)

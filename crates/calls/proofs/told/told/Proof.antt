@@ -15,8 +15,8 @@ returns-2 c =
     let here = c .before .before .before in
     let a = here .before .before .before .args in
     ⊎-elim
-    (λ w. told-sized (a .n) (a .m) (a .bytes .now) (a .x) _ (here .fitting .ensures) _ (c .todo-of .ensures) (w .1 .left))
-    (λ w. told-here (a .n) (a .m) (a .bytes .now) (a .x) _ (here .fitting .ensures) _ (c .todo-of .ensures) (w .left))
+    (λ w. told-sized (a .n) (a .m) (a .bytes .now) (a .x) _ (here .fitting .ensures) _ (c .task-of .ensures) (w .1 .left))
+    (λ w. told-here (a .n) (a .m) (a .bytes .now) (a .x) _ (here .fitting .ensures) _ (c .task-of .ensures) (w .left))
     (c .before .if1 .came)
 
 pub told-spec : {M : Type 1} → statement M

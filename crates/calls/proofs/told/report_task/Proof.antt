@@ -1,7 +1,7 @@
 use borrow.Author.Needs.{needs}
 use Rattle.calls.proofs.Telling.{report-20, report-31, report-30, report-on}
-use Rattle.calls.proofs.told.report_todo.Statement.{statement}
-use Rattle.calls.proofs.told.report_todo.Tie as tie
+use Rattle.calls.proofs.told.report_task.Statement.{statement}
+use Rattle.calls.proofs.told.report_task.Tie as tie
 
 returns : tie.Need-returns
 returns c = report-20 _ _ _ (c .if1 .taken)
@@ -23,5 +23,5 @@ returns-4 c =
     let a = plan .before .before .before .args in
     report-on (a .fits) (a .p) (plan .before .before .if1 .left) (plan .before .good2 .result) (plan .before .good2 .ensures) (a .t) (c .before .fits2 .result) (c .before .fits2 .ensures) (plan .if2 .left) (c .if3 .left)
 
-pub report-todo-spec : {M : Type 1} → statement M
-report-todo-spec = tie.close (tie.spec returns (λ c κs. search needs) returns-2 (λ c κs. search needs) returns-3 returns-4)
+pub report-task-spec : {M : Type 1} → statement M
+report-task-spec = tie.close (tie.spec returns (λ c κs. search needs) returns-2 (λ c κs. search needs) returns-3 returns-4)

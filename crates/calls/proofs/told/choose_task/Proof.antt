@@ -1,7 +1,7 @@
 use borrow.Author.Needs.{needs}
 use Rattle.calls.proofs.Telling.{choose-20, choose-31, choose-30, choose-on, no-window, too-short, too-long, can-be}
-use Rattle.calls.proofs.told.choose_todo.Statement.{statement}
-use Rattle.calls.proofs.told.choose_todo.Tie as tie
+use Rattle.calls.proofs.told.choose_task.Statement.{statement}
+use Rattle.calls.proofs.told.choose_task.Tie as tie
 
 returns : tie.Need-returns
 returns c = choose-20 _ _ _ (c .if1 .taken)
@@ -37,5 +37,5 @@ returns-6 c =
     choose-on (a .fits) (a .p) (plan .before .before .if1 .left) (plan .before .good2 .result) (plan .before .good2 .ensures) (a .a) (plan .if2 .left)
     (can-be (a .p) (a .a) (c .before .before .before .before .if3 .left) (c .before .before .if4 .left) (c .if5 .left))
 
-pub choose-todo-spec : {M : Type 1} → statement M
-choose-todo-spec = tie.close (tie.spec returns (λ c κs. search needs) returns-2 returns-3 returns-4 returns-5 returns-6)
+pub choose-task-spec : {M : Type 1} → statement M
+choose-task-spec = tie.close (tie.spec returns (λ c κs. search needs) returns-2 returns-3 returns-4 returns-5 returns-6)

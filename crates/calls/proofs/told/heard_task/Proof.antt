@@ -1,7 +1,7 @@
 use borrow.Author.Needs.{needs}
 use Rattle.calls.proofs.Telling.{heard-told, heard-not}
-use Rattle.calls.proofs.told.heard_todo.Statement.{statement}
-use Rattle.calls.proofs.told.heard_todo.Tie as tie
+use Rattle.calls.proofs.told.heard_task.Statement.{statement}
+use Rattle.calls.proofs.told.heard_task.Tie as tie
 
 -- it could not be read
 returns : tie.Need-returns
@@ -14,10 +14,10 @@ returns-2 : tie.Need-returns-2
 returns-2 c =
     let told = c .before .before .before in
     let a = told .before .before .before .before .args in
-    heard-told (a .fits) (a .own) (a .bytes .now) _ _ (told .before .before .read .ensures) (told .received2 .given .1) _ (c .before .tell .ensures) _ (c .telling-todo .ensures)
+    heard-told (a .fits) (a .own) (a .bytes .now) _ _ (told .before .before .read .ensures) (told .received2 .given .1) _ (c .before .tell .ensures) _ (c .telling-task .ensures)
 
-pub heard-todo-spec : {M : Type 1} → statement M
-heard-todo-spec =
+pub heard-task-spec : {M : Type 1} → statement M
+heard-task-spec =
     tie.close
     (tie.spec
     (λ c κs. search needs)

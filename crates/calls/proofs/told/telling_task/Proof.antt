@@ -1,7 +1,7 @@
 use borrow.Author.Needs.{needs}
 use Rattle.calls.proofs.Telling.{telling-20, telling-21, telling-22, telling-on}
-use Rattle.calls.proofs.told.telling_todo.Statement.{statement}
-use Rattle.calls.proofs.told.telling_todo.Tie as tie
+use Rattle.calls.proofs.told.telling_task.Statement.{statement}
+use Rattle.calls.proofs.told.telling_task.Tie as tie
 
 returns : tie.Need-returns
 returns c = telling-20 _ _ _ (c .if1 .taken)
@@ -23,5 +23,5 @@ returns-4 c =
     let a = other .before .before .before .args in
     telling-on (a .fits) (a .own) (a .x) (other .before .before .if1 .left) _ (other .before .fair .ensures) (other .if2 .left) (c .if3 .left)
 
-pub telling-todo-spec : {M : Type 1} → statement M
-telling-todo-spec = tie.close (tie.spec returns (λ c κs. search needs) returns-2 returns-3 returns-4)
+pub telling-task-spec : {M : Type 1} → statement M
+telling-task-spec = tie.close (tie.spec returns (λ c κs. search needs) returns-2 returns-3 returns-4)

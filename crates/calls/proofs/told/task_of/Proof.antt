@@ -1,51 +1,51 @@
 use mathlib.Core.Path.{sym, ap, _∙_}
 use borrow.Author.Needs.{needs}
-use Rattle.calls.specs.Told.{todoOf}
-use Rattle.calls.proofs.told.todo_of.Statement.{statement}
-use Rattle.calls.proofs.told.todo_of.Tie as tie
+use Rattle.calls.specs.Told.{taskOf}
+use Rattle.calls.proofs.told.task_of.Statement.{statement}
+use Rattle.calls.proofs.told.task_of.Tie as tie
 
 returns : tie.Need-returns
 returns c =
     let a = c .before .before .before .before .before .before .before .args in
-    c .fit-todo .ensures ∙ sym (ap (todoOf (a .fits) (a .watch) (a .bytes .now)) (c .before .enum-told .given .1))
+    c .fit-task .ensures ∙ sym (ap (taskOf (a .fits) (a .watch) (a .bytes .now)) (c .before .enum-told .given .1))
 
 returns-2 : tie.Need-returns-2
 returns-2 c =
     let a = c .before .before .before .before .before .before .before .args in
-    c .heard-todo .ensures ∙ sym (ap (todoOf (a .fits) (a .watch) (a .bytes .now)) (c .before .enum-told2 .given .1))
+    c .heard-task .ensures ∙ sym (ap (taskOf (a .fits) (a .watch) (a .bytes .now)) (c .before .enum-told2 .given .1))
 
 returns-3 : tie.Need-returns-3
 returns-3 c =
     let a = c .before .before .before .before .before .before .before .before .args in
-    c .plan-todo .ensures ∙ sym (ap (todoOf (a .fits) (a .watch) (a .bytes .now)) (c .before .before .what .given .1))
+    c .plan-task .ensures ∙ sym (ap (taskOf (a .fits) (a .watch) (a .bytes .now)) (c .before .before .what .given .1))
 
 returns-4 : tie.Need-returns-4
 returns-4 c =
     let a = c .before .before .before .before .before .before .before .before .args in
-    c .own-todo .ensures ∙ sym (ap (todoOf (a .fits) (a .watch) (a .bytes .now)) (c .before .before .what2 .given .1))
+    c .own-task .ensures ∙ sym (ap (taskOf (a .fits) (a .watch) (a .bytes .now)) (c .before .before .what2 .given .1))
 
 returns-5 : tie.Need-returns-5
 returns-5 c =
     let a = c .before .before .before .before .before .before .before .before .args in
-    c .choose-todo .ensures ∙ sym (ap (todoOf (a .fits) (a .watch) (a .bytes .now)) (c .before .before .what3 .given .1))
+    c .choose-task .ensures ∙ sym (ap (taskOf (a .fits) (a .watch) (a .bytes .now)) (c .before .before .what3 .given .1))
 
 returns-6 : tie.Need-returns-6
 returns-6 c =
     let a = c .before .before .before .before .before .before .before .before .args in
-    c .report-todo .ensures ∙ sym (ap (todoOf (a .fits) (a .watch) (a .bytes .now)) (c .before .before .what4 .given .1))
+    c .report-task .ensures ∙ sym (ap (taskOf (a .fits) (a .watch) (a .bytes .now)) (c .before .before .what4 .given .1))
 
 returns-7 : tie.Need-returns-7
 returns-7 c =
     let a = c .before .before .before .before .before .before .before .args in
-    c .fit-todo2 .ensures ∙ sym (ap (todoOf (a .fits) (a .watch) (a .bytes .now)) (c .before .enum-told3 .given .1))
+    c .fit-task2 .ensures ∙ sym (ap (taskOf (a .fits) (a .watch) (a .bytes .now)) (c .before .enum-told3 .given .1))
 
 returns-8 : tie.Need-returns-8
 returns-8 c =
     let a = c .before .before .before .before .before .before .before .args in
-    c .fit-todo3 .ensures ∙ sym (ap (todoOf (a .fits) (a .watch) (a .bytes .now)) (c .before .enum-told4 .given .1))
+    c .fit-task3 .ensures ∙ sym (ap (taskOf (a .fits) (a .watch) (a .bytes .now)) (c .before .enum-told4 .given .1))
 
-pub todo-of-spec : {M : Type 1} → statement M
-todo-of-spec =
+pub task-of-spec : {M : Type 1} → statement M
+task-of-spec =
     tie.close
     (tie.spec
     (λ c. search needs)
