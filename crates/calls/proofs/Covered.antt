@@ -11,7 +11,7 @@ use denote.Enum.Declared.{tagOf}
 use types.Run.{OneOf, miss}
 use Rattle.laws.specs.Tests.{between}
 use Rattle.laws.specs.Counting.{one}
-use Rattle.laws.proofs.Tests.{both-left, both-right, between-is}
+use Rattle.laws.proofs.Tests.{never, both-left, both-right, between-is}
 use Rattle.limits.specs.Limits.{leastTimeOut, mostTimeOut}
 use Rattle.numbers.specs.declared.Refusal.{Refusal}
 use Rattle.message.specs.declared.Message.the-variants.{Other}
@@ -92,7 +92,7 @@ heard-by t w x e = rw e
 other-by : (t : Task) (w : Watch) → false ≡ isHear t → _≡_ {A = Hearing} (record { watch = w; telling = tellingOf Other }) (hearingBy t w)
 other-by (task.Refused r) w e = refl
 other-by task.Nothing w e = refl
-other-by (task.Hear x) w e = absurd (let z : _≡_ {A = ℕ} 0 1 = cc in omega arith)
+other-by (task.Hear x) w e = never e
 other-by (task.Plan p) w e = refl
 other-by (task.Own s) w e = refl
 other-by (task.Choose a) w e = refl
@@ -115,7 +115,7 @@ module _ (c : Case) (x : Telling) where
 fit-choose : (t : Task) (p : Plan) (a : Wanted) → t ≡ task.Choose a → FitTask t p → (planFits (p .rate) (p .start) ≡ true) × (askFits p a ≡ true)
 fit-choose t p a e h = rw e at h
 
-window-there : (p : Plan) (a : Wanted) → askFits p a ≡ true → (a .k < p .rate) × (a .timeout < mostTimeOut + 1)
+pub window-there : (p : Plan) (a : Wanted) → askFits p a ≡ true → (a .k < p .rate) × (a .timeout < mostTimeOut + 1)
 unfolding askFits
 window-there p a e =
     let f = both-left (ltb (a .k) (p .rate)) (between leastTimeOut mostTimeOut (a .timeout)) e in
@@ -135,7 +135,7 @@ none-by task.Nothing book w e = refl
 none-by (task.Hear x) book w e = refl
 none-by (task.Plan p) book w e = refl
 none-by (task.Own s) book w e = refl
-none-by (task.Choose a) book w e = absurd (let z : _≡_ {A = ℕ} 0 1 = cc in omega arith)
+none-by (task.Choose a) book w e = never e
 none-by (task.Report t) book w e = refl
 none-by task.New book w e = refl
 none-by task.Sum book w e = refl

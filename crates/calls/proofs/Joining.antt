@@ -1,17 +1,17 @@
 -- What each stage needs, and that stages one after the other come to what is to be done.
 -- Assumes nothing.
-use mathlib.Core.Path.{_≡_, refl, sym, ap, subst, _∙_}
+use mathlib.Core.Path.{_≡_, refl, sym, ap, subst, subst₃, _∙_}
 use mathlib.Core.Bool.{Bool, true, false}
 use mathlib.Core.List.{List, [], _∷_, map}
 use Prim.Native.Nat.{ℕ, _+_, _≤_, _<_}
 use native.Mathlib.Omega.{arith}
 use lib.Dec.{ltb}
 use lib.ListN.{length, replicate, length-set, length-map}
-use Rattle.laws.specs.Tests.{pick, between, ladder}
-use Rattle.laws.proofs.Tests.{never, both-right, between-is}
+use Rattle.laws.specs.Tests.{pick, ladder}
+use Rattle.laws.proofs.Tests.{never}
 use Rattle.laws.proofs.Sums.{one-le}
 use Rattle.laws.proofs.Upto.{upto-keeps}
-use Rattle.limits.specs.Limits.{slotTimes, records, leastTimeOut, mostTimeOut}
+use Rattle.limits.specs.Limits.{slotTimes, records, mostTimeOut}
 use Rattle.numbers.specs.declared.Refusal.the-variants.{NotOwn}
 use Rattle.ship.specs.declared.Station.{Station}
 use Rattle.ship.specs.Ship.{blank}
@@ -37,7 +37,7 @@ use Rattle.hearing.proofs.Joined.{freed-booked}
 use Rattle.hearing.proofs.Hears.{hears-is}
 use Rattle.choosing.specs.declared.Wanted.{Wanted}
 use Rattle.choosing.specs.declared.own.Owning.{Owning}
-use Rattle.choosing.specs.Choosing.{askFits, windowOf}
+use Rattle.choosing.specs.Choosing.{windowOf}
 use Rattle.choosing.specs.Scanning.{asked, scanned, judged}
 use Rattle.choosing.specs.Owning.{owningOf, Owns, ownedOut}
 use Rattle.choosing.proofs.Meaning.{near, narrow, timed}
@@ -48,6 +48,7 @@ use Rattle.calls.specs.declared.told.Task.the-variants as task
 use Rattle.calls.specs.declared.told.Case.{Case}
 use Rattle.calls.specs.Calls.{planned, reports}
 use Rattle.calls.specs.Stages.{doneTask, Sized, FitTask, Fit, passOut, older, isHear, hearingBy, hearingOf, Sought, announcedOut, enteredOut, isChoose, queryBy, queryOf, Draws, drawnOut, isNew, clearedOut, isRest, sumsIn, Replans, RestNeeds, restBy, reportAnswer, reportedReply, doneOut, agedOut, carriedOut}
+use Rattle.calls.proofs.Covered.{window-there}
 
 -- where two functions say what they leave, both one after the other leave this
 pub ends-at : {Y : Type 0} {o p : Out Y} {r : Y} {zs : List Station} {cs : List ℕ} → o ≡ p → Ends o r zs cs → Ends p r zs cs
@@ -61,9 +62,7 @@ ends-so e = record { answers = λ i. e i .answer; leaves = λ i. e i .reg; write
 pub freed-fits : (b : Booking) (ys : List Station) (bs : List ℕ) (y : Booking) (zs : List Station) (cs : List ℕ) → Booked ys bs b
     → Ends (freedOut b ys bs) y zs cs → Booked zs cs y
 freed-fits b ys bs y zs cs n e =
-    let go = freed-booked b ys bs n in
-    subst (λ z. Booked zs cs z) (sym (e .answers))
-    (subst (λ l. Booked l cs (freedOut b ys bs .answer)) (sym (e .leaves)) (subst (λ l. Booked (freedOut b ys bs .reg) l (freedOut b ys bs .answer)) (sym (e .writes)) go))
+    subst₃ Booked (sym (e .leaves)) (sym (e .writes)) (sym (e .answers)) (freed-booked b ys bs n)
 
 pub announced : (b : Booking) (ys : List Station) (bs : List ℕ) (y : Booking) (zs : List Station) (cs : List ℕ) (r : Reply) (zs′ : List Station) (cs′ : List ℕ)
     → Ends (freedOut b ys bs) y zs cs → Ends (markedOut y zs cs) r zs′ cs′ → Ends (announcedOut b ys bs) r zs′ cs′
@@ -105,12 +104,6 @@ heard-is c ys bs b zs cs r zs′ cs′ z e s f =
 
 -- ---- choosing
 
-pub timed-out : (p : Plan) (a : Wanted) → askFits p a ≡ true → a .timeout < mostTimeOut + 1
-unfolding askFits
-timed-out p a e =
-    let r = between-is leastTimeOut mostTimeOut (a .timeout) (both-right (ltb (a .k) (p .rate)) (between leastTimeOut mostTimeOut (a .timeout)) e) in
-    omega (arith, r .1)
-
 asked-draws : (bs : List ℕ) (w : Watch) (a : Wanted) → length bs ≡ slotTimes → a .timeout < mostTimeOut + 1 → Draws bs (asked bs w a)
 unfolding asked
 asked-draws bs w a size few =
@@ -127,7 +120,7 @@ choose-draws task.Nothing w bs e size f = never e
 choose-draws (task.Hear x) w bs e size f = never e
 choose-draws (task.Plan p) w bs e size f = never e
 choose-draws (task.Own o) w bs e size f = never e
-choose-draws (task.Choose a) w bs e size f = asked-draws bs w a size (timed-out (w .channel .plan) a (f .1))
+choose-draws (task.Choose a) w bs e size f = asked-draws bs w a size (window-there (w .channel .plan) a (f .1) .1)
 choose-draws (task.Report t) w bs e size f = never e
 choose-draws task.New w bs e size f = never e
 choose-draws task.Sum w bs e size f = never e
@@ -154,7 +147,7 @@ choose-comes (task.Plan p) w ys bs e f = never e
 choose-comes (task.Own o) w ys bs e f = never e
 choose-comes (task.Choose a) w ys bs e f =
     let q = asked bs w a in
-    ap (λ p. ownedOut (owningOf q p) ys bs) (finds-the-choice ys bs w a (timed-out (w .channel .plan) a (f .1))) ∙ chooses-is ys bs w a q (asked-watch bs w a) (asked-window bs w a)
+    ap (λ p. ownedOut (owningOf q p) ys bs) (finds-the-choice ys bs w a (window-there (w .channel .plan) a (f .1) .1)) ∙ chooses-is ys bs w a q (asked-watch bs w a) (asked-window bs w a)
 choose-comes (task.Report t) w ys bs e f = never e
 choose-comes task.New w ys bs e f = never e
 choose-comes task.Sum w ys bs e f = never e
@@ -162,9 +155,7 @@ choose-comes task.Sum w ys bs e f = never e
 pub owns-fits : (c : Case) (ys : List Station) (bs : List ℕ) (o : Owning) (zs : List Station) (cs : List ℕ) → Sized ys bs → Ends (drawnOut c ys bs) o zs cs → Owns zs cs o
 owns-fits c ys bs o zs cs z e =
     let q = queryOf bs c in
-    let met = run-met q ys bs (judged bs q (scanned ys bs q)) (z .register) (z .size) in
-    subst (λ x. Owns zs cs x) (sym (e .answers))
-    (subst (λ l. Owns l cs (drawnOut c ys bs .answer)) (sym (e .leaves)) (subst (λ l. Owns ys l (drawnOut c ys bs .answer)) (sym (e .writes)) met))
+    subst₃ Owns (sym (e .leaves)) (sym (e .writes)) (sym (e .answers)) (run-met q ys bs (judged bs q (scanned ys bs q)) (z .register) (z .size))
 
 pub chosen-is : (c : Case) (ys : List Station) (bs : List ℕ) (o : Owning) (zs : List Station) (cs : List ℕ) (r : Reply) (zs′ : List Station) (cs′ : List ℕ)
     → Fit ys bs c → isChoose (c .task) ≡ true → Ends (drawnOut c ys bs) o zs cs → Ends (ownedOut o zs cs) r zs′ cs′ → Ends (doneOut c ys bs) r zs′ cs′
