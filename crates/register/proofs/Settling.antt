@@ -68,25 +68,22 @@ module _ (reg : List Station) (t : Turn) (many : length reg ≡ records) where
   unfolding moreBy
   more-tally e = rw e
 
-  pub lost-tallies : talliesIn (lostIn reg t) ≡ talliesBy lowered (talliesIn reg) old
+  -- the holder h has got the record r: g of its tally where it has a record, and nothing else
+  follow-tallies : (g : ℕ → ℕ) (h : ℕ) (r : Station) → (isRecord h ≡ true → r .tally ≡ g (at h .tally)) → (isRecord h ≡ false → at h ≡ r)
+      → talliesIn (set reg (recordAt h) r) ≡ talliesBy g (talliesIn reg) h
   unfolding talliesBy
-  lost-tallies = go (isRecord old) refl
+  follow-tallies g h r is none = go (isRecord h) refl
     where
-      go : (b : Bool) → isRecord old ≡ b → talliesIn (lostIn reg t) ≡ pick (isRecord old) (set (talliesIn reg) (old - 1) (lowered (getD (talliesIn reg) (old - 1) 0))) (talliesIn reg)
+      go : (b : Bool) → isRecord h ≡ b → talliesIn (set reg (recordAt h) r) ≡ pick (isRecord h) (set (talliesIn reg) (h - 1) (g (getD (talliesIn reg) (h - 1) 0))) (talliesIn reg)
       go true e =
-          rw e (set-tallies lowered reg (recordAt old) (lessBy (at old) t) (omega (arith, inside old)) (less-tally e)
-          ∙ ap (λ (k : ℕ). set (talliesIn reg) k (lowered (getD (talliesIn reg) k 0))) (its-record old e))
-      go false e = rw e (ap talliesIn (ap (set reg (recordAt old)) (sym (less-none (at old) t e)) ∙ set-getD reg (recordAt old) blank))
+          rw e (set-tallies g reg (recordAt h) r (omega (arith, inside h)) (is e) ∙ ap (λ (k : ℕ). set (talliesIn reg) k (g (getD (talliesIn reg) k 0))) (its-record h e))
+      go false e = rw e (ap talliesIn (ap (set reg (recordAt h)) (sym (none e)) ∙ set-getD reg (recordAt h) blank))
+
+  pub lost-tallies : talliesIn (lostIn reg t) ≡ talliesBy lowered (talliesIn reg) old
+  lost-tallies = follow-tallies lowered old (lessBy (at old) t) less-tally (less-none (at old) t)
 
   pub won-tallies : talliesIn (wonIn reg t) ≡ talliesBy raised (talliesIn reg) new
-  unfolding talliesBy
-  won-tallies = go (isRecord new) refl
-    where
-      go : (b : Bool) → isRecord new ≡ b → talliesIn (wonIn reg t) ≡ pick (isRecord new) (set (talliesIn reg) (new - 1) (raised (getD (talliesIn reg) (new - 1) 0))) (talliesIn reg)
-      go true e =
-          rw e (set-tallies raised reg (recordAt new) (moreBy (at new) t) (omega (arith, inside new)) (more-tally e)
-          ∙ ap (λ (k : ℕ). set (talliesIn reg) k (raised (getD (talliesIn reg) k 0))) (its-record new e))
-      go false e = rw e (ap talliesIn (ap (set reg (recordAt new)) (sym (more-none (at new) t e)) ∙ set-getD reg (recordAt new) blank))
+  won-tallies = follow-tallies raised new (moreBy (at new) t) more-tally (more-none (at new) t)
 
   -- but for its tally the winner is as it was, and the loser too where the slot time did not become ours
   more-bare : withTally (moreBy (at new) t) 0 ≡ withTally (at new) 0
