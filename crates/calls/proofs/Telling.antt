@@ -10,18 +10,16 @@ use mathlib.Core.Logic.{_↔_}
 use mathlib.Core.List.{List, [], _∷_}
 use Prim.Native.Nat.{ℕ, _≤_, _<_}
 use native.Mathlib.Omega.{arith}
-use borrow.Author.Needs.{sfits-of}
 use borrow.Author.Tests.{eq-eqb, ne-eqb, lt-ltb, le-ltb}
 use lib.Dec.{T, eqb, ltb}
 use denote.Enum.Declared.{tagOf}
 use mir.Syntax.{w32}
 use mir.Val.{toZ, ofZ}
-use mir.Facts.{toZ-ofZ}
-use lib.IntN.{ℤ}
 use lib.Signed.{mag}
 use types.Run.{OneOf, miss}
 use Rattle.laws.specs.Tests.{both, either, pick}
 use Rattle.laws.proofs.Tests.{was-false, was-true, both-no, both-yes, between-yes, between-low, between-high}
+use Rattle.laws.proofs.Signs.{back}
 use Rattle.limits.specs.Limits.{slotTimes, records, leastTimeOut, mostTimeOut}
 use Rattle.numbers.specs.declared.Refusal.{Refusal}
 use Rattle.numbers.specs.declared.Refusal.the-variants.{OtherLength, BadSource, Repeated, OutOfRange, NoPlan}
@@ -133,10 +131,6 @@ module _ (fits : Bool) (own : ℕ) (bytes : List ℕ) (r : Received) where
       → t ≡ heardTask fits own bytes
   unfolding heardTask
   heard-told m is e x says t does = does ∙ ap (tellingTask fits own) says ∙ sym (ap (receivedTask fits own) (sym is ∙ e))
-
--- a number of 32 bits, read back from its bits
-back : (z : ℤ) → mag z < 2147483648 → toZ w32 (ofZ w32 z) ≡ z
-back z h = toZ-ofZ (sfits-of h)
 
 -- our own ship
 -- (a signed number goes to the call as a word, and comes back as it was)

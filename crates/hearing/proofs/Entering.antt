@@ -6,16 +6,14 @@ use mathlib.Core.List.{List}
 use Prim.Native.Nat.{ℕ, _+_, _≤_, _<_}
 use native.Mathlib.Omega.{arith}
 use borrow.Author.Tests.{lt-ltb, le-ltb, ltb-true}
-use borrow.Author.Needs.{sfits-of}
 use mir.Syntax.{w32}
 use mir.Val.{toZ, ofZ}
-use mir.Facts.{toZ-ofZ}
 use lib.Dec.{eqb, ltb}
-use lib.IntN.{ℤ}
 use lib.Signed.{mag}
 use lib.ListN.{length, length-set}
 use Rattle.laws.specs.Tests.{pick}
 use Rattle.laws.proofs.Tests.{by-test}
+use Rattle.laws.proofs.Signs.{back}
 use Rattle.limits.specs.Limits.{records}
 use Rattle.numbers.specs.declared.Refusal.{Refusal}
 use Rattle.ship.specs.declared.Station.{Station}
@@ -57,10 +55,6 @@ holder-small b = omega (arith, place-inside b)
 pub stored-none : (s : Station) (b : Booking) (r : Refusal) → b .fit ≡ NotFit r → s ≡ storedBy s b
 unfolding storedBy
 stored-none s b r e = rw e
-
--- a position, read back from its bits
-back : (z : ℤ) → mag z < 2147483648 → toZ w32 (ofZ w32 z) ≡ z
-back z h = toZ-ofZ (sfits-of h)
 
 pub stored-is : (s : Station) (b : Booking) (hold : ℕ) → b .fit ≡ Yes → hold ≡ pick (eqb (s .source) (b .telling .source)) (s .hold) 0
     → mag (b .telling .latitude) < 2147483648 → mag (b .telling .longitude) < 2147483648

@@ -8,14 +8,13 @@ use Prim.Native.Nat.{ℕ, zero, suc, _≤_, _<_}
 use native.Mathlib.Decide.{ℕ-discrete}
 use native.Mathlib.Omega.{arith}
 use borrow.Author.Tests.{eq-eqb, ne-eqb, lt-ltb, le-ltb}
-use borrow.Author.Needs.{sfits-of}
 use mir.Syntax.{w32}
 use mir.Val.{toZ, ofZ}
-use mir.Facts.{toZ-ofZ}
 use lib.IntN.{ℤ}
 use lib.Signed.{mag}
 use lib.ListN.{length, getD}
 use Rattle.laws.proofs.Tests.{both-no, both-yes}
+use Rattle.laws.proofs.Signs.{back}
 use Rattle.message.specs.declared.state.State.{State}
 use Rattle.ship.specs.Ship.{fairSource}
 use Rattle.hearing.specs.declared.Telling.{Telling}
@@ -29,11 +28,7 @@ abbrev telling : ℕ → ℕ → Bool → ℤ → ℤ → State → Telling
 telling source repeat base lat lon state =
     record { source = source; repeat = repeat; base = base; latitude = lat; longitude = lon; state = state }
 
--- a number of 32 bits, read back from its bits
-back : (z : ℤ) → mag z < 2147483648 → toZ w32 (ofZ w32 z) ≡ z
-back z h = toZ-ofZ (sfits-of h)
-
--- a telling whose position was so read
+-- a telling whose position is read back from its bits
 pub told-back : (source repeat : ℕ) (base : Bool) (lat lon : ℤ) (state : State) → mag lat < 2147483648 → mag lon < 2147483648
     → telling source repeat base (toZ w32 (ofZ w32 lat)) (toZ w32 (ofZ w32 lon)) state ≡ telling source repeat base lat lon state
 told-back source repeat base lat lon state p q = λ j. telling source repeat base (back lat p j) (back lon q j) state

@@ -5,6 +5,7 @@ use mathlib.Core.Bool.{true, false}
 use Prim.Native.Nat.{ℕ, zero, suc, _≤_, _<_}
 use native.Mathlib.Nat.{zero-add}
 use native.Mathlib.Omega.{arith}
+use borrow.Author.Needs.{sfits-of}
 use borrow.Author.Tests.{le-ltb}
 use lib.Dec.{T}
 use lib.IntN.{ℤ, pos, negsuc, negℤ, _-ℤ_, natAbs, +ℤ-idl}
@@ -15,6 +16,10 @@ use mir.Val.{Fits, SFits, toZ, ofZ}
 use Rattle.laws.proofs.Tests.{never}
 
 -- ---- what fits
+
+-- what fits in 32 bits, read back from them
+pub back : (z : ℤ) → mag z < 2147483648 → toZ w32 (ofZ w32 z) ≡ z
+back z h = toZ-ofZ (sfits-of h)
 
 -- what decides whether z fits is no more than z without its sign
 mag-le : (z : ℤ) → mag z ≤ natAbs z

@@ -6,22 +6,14 @@ use mathlib.Core.List.{List}
 use Prim.Native.Nat.{ℕ, _+_, _-_, _/_, _%_, _≤_, _<_}
 use native.Mathlib.Omega.{arith}
 use borrow.Author.Tests.{eq-eqb, ne-eqb, le-leb, lt-leb, ltb-true}
-use borrow.Author.Needs.{sfits-of}
 use lib.Dec.{eqb}
 use lib.IntN.{ℤ, pos, negsuc}
-use lib.Signed.{mag, ltZ}
-use mir.Syntax.{w32}
-use mir.Val.{toZ, ofZ}
-use mir.Facts.{toZ-ofZ}
+use lib.Signed.{ltZ}
 use Rattle.message.specs.declared.Message.the-variants.{One, Two, Three, Four, Other}
 use Rattle.message.specs.declared.state.SubMessage.the-variants.{Offset, Time, Slot, Stations}
 use Rattle.listing.specs.Listing.{plainOf, plainAt, reportIn, baseIn, pairsOf, subSaid, organisedIn, incrementalIn, messageIn}
 
 -- ---- one number
-
--- a signed local holds bits
-pub back : (z : ℤ) → mag z < 2147483648 → toZ w32 (ofZ w32 z) ≡ z
-back z h = toZ-ofZ (sfits-of h)
 
 pub plain-below : (x : ℤ) → ltZ x (pos 0) ≡ true → 4294967295 ≡ plainOf x
 unfolding plainOf

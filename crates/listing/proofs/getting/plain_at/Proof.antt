@@ -1,6 +1,6 @@
 use mathlib.Core.Path.{ap, _∙_}
 use Rattle.listing.specs.Listing.{plainOf}
-use Rattle.listing.proofs.Said.{back}
+use Rattle.laws.proofs.Signs.{back}
 use borrow.Author.Needs.{needs}
 use Rattle.listing.proofs.getting.plain_at.Statement.{statement}
 use Rattle.listing.proofs.getting.plain_at.Tie as tie

@@ -1,4 +1,4 @@
-use Rattle.listing.proofs.Said.{back}
+use Rattle.laws.proofs.Signs.{back}
 use borrow.Author.Needs.{needs}
 use Rattle.listing.proofs.putting.put_report.Statement.{statement}
 use Rattle.listing.proofs.putting.put_report.Tie as tie
