@@ -1,6 +1,6 @@
 -- The next time that passes a test, by the next of its parts; and turns that change nothing may be left out.
 -- Assumes nothing.
-use mathlib.Core.Path.{_≡_, refl, sym, ap, _∙_}
+use mathlib.Core.Path.{_≡_, sym, ap, _∙_}
 use mathlib.Core.Bool.{Bool, true, false}
 use Prim.Native.Nat.{ℕ, zero, suc, _+_, _-_, _≤_, _<_, min}
 use native.Mathlib.Nat.{add-zero, add-suc}
@@ -10,6 +10,7 @@ use Rattle.laws.specs.Tests.{both, either, pick}
 use Rattle.laws.specs.Counting.{one}
 use Rattle.laws.specs.Loops.{upto}
 use Rattle.laws.specs.Ranges.{howMany}
+use Rattle.laws.proofs.Tests.{either-true}
 use Rattle.laws.proofs.Upto.{upto-none, upto-more}
 use Rattle.limits.specs.Limits.{slotTimes}
 use Rattle.announcing.specs.Next.{Next}
@@ -29,11 +30,7 @@ module _ {p q w : ℕ → Bool} (is : (e : ℕ) → w e ≡ either (p e) (q e)) 
   first e f = is e ∙ simp f
 
   second : (e : ℕ) → q e ≡ true → w e ≡ true
-  second e g = is e ∙ ap (either (p e)) g ∙ last (p e)
-    where
-      last : (t : Bool) → either t true ≡ true
-      last true = refl
-      last false = refl
+  second e g = is e ∙ ap (either (p e)) g ∙ either-true (p e)
 
   pub next-sooner : (r : ℕ) → r ≡ min a b → Next w d r
   next-sooner r e =

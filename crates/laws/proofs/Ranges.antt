@@ -9,7 +9,7 @@ use native.Mathlib.Omega.{arith}
 use Rattle.laws.specs.Tests.{either}
 use Rattle.laws.specs.Counting.{one}
 use Rattle.laws.specs.Ranges.{howMany, some, least}
-use Rattle.laws.proofs.Tests.{never, by-test}
+use Rattle.laws.proofs.Tests.{never, by-test, either-true}
 use Rattle.laws.proofs.Sums.{one-le}
 
 -- ---- how many pass
@@ -48,12 +48,8 @@ module _ (p : ℕ → Bool) where
   some-hit i zero l e = absurd (omega arith)
   some-hit i (suc n) l e = go (ℕ-discrete i n) (λ m. some-hit i n m e)
     where
-      last : (b : Bool) → true ≡ either b true
-      last true = refl
-      last false = refl
-
       go : Dec (i ≡ n) → (i < n → true ≡ some p n) → true ≡ either (some p n) (p n)
-      go (yes q) h = last (some p n) ∙ ap (either (some p n)) (sym e ∙ ap p q)
+      go (yes q) h = sym (either-true (some p n)) ∙ ap (either (some p n)) (sym e ∙ ap p q)
       go (no q) h = ap (λ (b : Bool). either b (p n)) (h (omega arith))
 
   -- where some pass, here is one

@@ -68,6 +68,10 @@ pub either-false : (b : Bool) → either b false ≡ b
 either-false true = refl
 either-false false = refl
 
+pub either-true : (b : Bool) → either b true ≡ true
+either-true true = refl
+either-true false = refl
+
 -- ---- the one of two that a test picks
 
 -- what f makes of it

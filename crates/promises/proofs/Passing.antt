@@ -1,13 +1,12 @@
 -- A call with passes alone: so many slots have passed, and nothing else has changed.
 -- Assumes nothing.
 use mathlib.Core.Path.{_≡_, refl, sym, ap, subst, _∙_}
-use mathlib.Core.Bool.{Bool, true, false}
 use mathlib.Core.List.{List, [], _∷_, map}
 use Prim.Native.Nat.{ℕ, zero, suc, _+_, _-_, _%_}
 use lib.Dec.{eqb}
 use lib.ListN.{length}
-use Rattle.laws.specs.Tests.{either}
 use Rattle.laws.specs.Loops.{upto}
+use Rattle.laws.proofs.Tests.{either-true}
 use Rattle.limits.specs.Limits.{slotTimes, records}
 use Rattle.ship.specs.declared.Station.{Station}
 use Rattle.book.specs.Book.{Book, bookOf, putAt}
@@ -17,12 +16,13 @@ use Rattle.register.specs.declared.Answer.the-variants.{Passed}
 use Rattle.register.specs.State.{State, bookIn, sourcesIn, withHold, settle, passed as passed-one, passes}
 use Rattle.register.specs.Answers.{Answered, answered}
 use Rattle.register.proofs.Settling.{bookIn-settle}
+use Rattle.register.proofs.Again.{all-kinds}
 use Rattle.calls.specs.declared.What.the-variants.{Nothing}
 use Rattle.calls.specs.Calls.{planIn, pass, called}
 use Rattle.calls.proofs.Doing.{passes-keep, sized-alike}
 use Rattle.promises.specs.Calls.{afterCall}
 use Rattle.promises.proofs.Moves.{Fine, momentIn, PassedBy}
-use Rattle.promises.proofs.Written.{fine-sized, all-tallies, as-many, written-sources}
+use Rattle.promises.proofs.Written.{fine-sized, as-many, written-sources}
 
 -- ---- one slot
 
@@ -45,7 +45,7 @@ module _ (s : State) (many : length (s .reg) ≡ records) where
   book-is =
       ap (λ (ts : List ℕ). bookOf (written .book) ts (written .watch .channel .counts))
       (held-apart (λ (r : Station). r .tally) (λ r h. refl) (written .reg))
-      ∙ bookIn-settle s freed many (put-sizes (bookIn s) (s .watch .present % slotTimes) 0 .1 ∙ all-tallies s many)
+      ∙ bookIn-settle s freed many (put-sizes (bookIn s) (s .watch .present % slotTimes) 0 .1 ∙ all-kinds s many)
 
   passed-sources : sourcesIn (passed-one s .reg) ≡ sourcesIn (s .reg)
   unfolding passed-one
@@ -60,10 +60,6 @@ module _ (s : State) (many : length (s .reg) ≡ records) where
   passed-plan = refl
 
 -- ---- n slots
-
-any-or : (b : Bool) → either b true ≡ true
-any-or true = refl
-any-or false = refl
 
 module _ (s : State) (f : Fine s) where
   passes-by : (n : ℕ) → PassedBy n s (passes s n)
@@ -82,7 +78,7 @@ module _ (s : State) (f : Fine s) where
   -- with its lengths the call leaves the state that the slots leave
   call-is : (n : ℕ) (bytes : List ℕ) → called s n bytes Nothing ≡ answered Passed (passes s n)
   unfolding called pass
-  call-is n bytes = rw (fine-sized s f, any-or (eqb n 0), sized-alike s (passes s n) (passes-keep s n) ∙ fine-sized s f)
+  call-is n bytes = rw (fine-sized s f, either-true (eqb n 0), sized-alike s (passes s n) (passes-keep s n) ∙ fine-sized s f)
 
   state-is : (n : ℕ) (bytes : List ℕ) → afterCall s (record { passes = n; bytes = bytes; what = Nothing }) ≡ passes s n
   unfolding afterCall
