@@ -29,9 +29,10 @@ use Rattle.choosing.proofs.Choosing.{not-taken}
 use Rattle.register.specs.declared.Slot.{Slot}
 use Rattle.register.specs.State.{State, bookIn, sourcesIn, settle, owned}
 use Rattle.register.proofs.Settling.{bookIn-settle}
+use Rattle.register.proofs.Again.{all-kinds}
 use Rattle.calls.specs.Calls.{planIn}
 use Rattle.promises.proofs.Moves.{Fine, windowIn, ownedIn, ChosenBy}
-use Rattle.promises.proofs.Written.{all-tallies, as-many, written-sources, written-present, written-plan, held-stays}
+use Rattle.promises.proofs.Written.{as-many, written-sources, written-present, written-plan, held-stays}
 
 -- ---- one place that becomes ours
 
@@ -48,7 +49,7 @@ module _ (s : State) (at : ℕ) (many : length (s .reg) ≡ records) where
   owned-book =
       ap (λ (ts : List ℕ). bookOf (written .book) ts (written .watch .channel .counts))
       (held-stays (λ (r : Station). r .tally) (λ r h. refl) (holder (bookIn s) at) (written .reg))
-      ∙ bookIn-settle s put many (put-sizes (bookIn s) at ours .1 ∙ all-tallies s many)
+      ∙ bookIn-settle s put many (put-sizes (bookIn s) at ours .1 ∙ all-kinds s many)
 
   owned-sources : sourcesIn (owned s at .reg) ≡ sourcesIn (s .reg)
   unfolding owned

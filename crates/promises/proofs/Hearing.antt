@@ -25,8 +25,9 @@ use Rattle.hearing.specs.Station.{fairOther}
 use Rattle.hearing.specs.Hear.{tellingIn, entered, stored, heard, hearTests}
 use Rattle.register.specs.State.{State, bookIn, sourcesIn}
 use Rattle.register.proofs.Settling.{map-set, bookIn-settle}
+use Rattle.register.proofs.Again.{all-kinds}
 use Rattle.promises.proofs.Moves.{Fine, HeardBy, recordIn}
-use Rattle.promises.proofs.Written.{all-tallies, written-sources, written-present, written-plan}
+use Rattle.promises.proofs.Written.{written-sources, written-present, written-plan}
 
 -- the station is stored: the book is as it was, and its record has its source
 module _ (s : State) (x : Telling) where
@@ -79,7 +80,7 @@ module _ (s : State) (bytes : List ℕ) (f : Fine s) (held : AllHold (hearTests 
         known = known;
         there = there;
         within = held .1 .1 .1 .1 .1 .1;
-        book = bookIn-settle t (announced t) many (sizes .1 ∙ all-tallies t many)
+        book = bookIn-settle t (announced t) many (sizes .1 ∙ all-kinds t many)
             ∙ ap (booked (s .watch .present) (suc (recordIn s told)) (announces (told .state))) (stored-book s told);
         sources = written-sources (announced t) t ∙ stored-sources s told;
         present = written-present (announced t) t ∙ ap (λ (w : Watch). w .present) (stored-watch s told);

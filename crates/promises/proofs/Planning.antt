@@ -9,9 +9,10 @@ use Rattle.book.proofs.Plans.{in-range}
 use Rattle.book.proofs.Lengths.{released-sizes}
 use Rattle.register.specs.State.{State, bookIn}
 use Rattle.register.proofs.Settling.{bookIn-settle}
+use Rattle.register.proofs.Again.{all-kinds}
 use Rattle.calls.specs.Calls.{planned, planTests}
 use Rattle.promises.proofs.Moves.{Fine, PlannedBy}
-use Rattle.promises.proofs.Written.{all-tallies, written-sources, written-present}
+use Rattle.promises.proofs.Written.{written-sources, written-present}
 
 pub plan-moves : (s : State) (p : Plan) → Fine s → AllHold (planTests s p) → PlannedBy s (planned s p)
 unfolding planned
@@ -19,7 +20,7 @@ plan-moves s p f held =
     let b : Book = released ours (bookIn s) slotTimes in
     record {
       ranged = in-range p (held .1);
-      book = bookIn-settle s b (f .register) (released-sizes ours (bookIn s) slotTimes .1 ∙ all-tallies s (f .register));
+      book = bookIn-settle s b (f .register) (released-sizes ours (bookIn s) slotTimes .1 ∙ all-kinds s (f .register));
       sources = written-sources b s;
       present = written-present b s;
     }

@@ -2,18 +2,17 @@
 -- Assumes nothing.
 use mathlib.Core.Path.{_≡_, refl, sym, ap, _∙_}
 use mathlib.Core.Bool.{Bool, true, false}
-use mathlib.Core.List.{List, [], _∷_, map}
+use mathlib.Core.List.{List, map}
 use Prim.Native.Nat.{ℕ, _-_}
-use native.Mathlib.Omega.{arith}
-use lib.ListN.{length, getD, set, length-map, length-append}
+use lib.ListN.{length, getD, set, length-map}
 use lib.Seq.{map-set-same}
 use borrow.Author.Tests.{eq-eqb}
 use Rattle.laws.specs.Tests.{pick}
 use Rattle.limits.specs.Limits.{slotTimes, records, holdOff}
 use Rattle.ship.specs.declared.Station.{Station}
 use Rattle.ship.specs.Ship.{blank}
-use Rattle.book.specs.Book.{Book, holders, isRecord, talliesOf}
-use Rattle.register.specs.State.{State, talliesIn, bookIn, sourcesIn, withHold, settle, heldOff}
+use Rattle.book.specs.Book.{Book, isRecord, talliesOf}
+use Rattle.register.specs.State.{State, sourcesIn, withHold, settle, heldOff}
 use Rattle.register.specs.Answers.{sized}
 use Rattle.register.proofs.Settling.{tallied-field}
 use Rattle.calls.specs.Calls.{planIn}
@@ -25,12 +24,6 @@ use Rattle.promises.proofs.Moves.{Fine}
 pub fine-sized : (s : State) → Fine s → sized s ≡ true
 unfolding sized
 fine-sized s f = rw (eq-eqb (length (s .book)) slotTimes (f .book)) (eq-eqb (length (s .reg)) records (f .register))
-
--- with all records all holders have a tally
-pub all-tallies : (s : State) → length (s .reg) ≡ records → length (bookIn s .tallies) ≡ holders
-all-tallies s many =
-    let tallies = talliesIn (s .reg) in
-    omega (arith, many, length-map (s .reg) (λ (r : Station). r .tally), length-append tallies (s .watch .channel .counts .own ∷ []))
 
 -- as many records as sources
 pub as-many : (reg reg′ : List Station) → sourcesIn reg′ ≡ sourcesIn reg → length reg′ ≡ length reg
