@@ -1,6 +1,4 @@
 -- The plain types of hearing, as the theorems of `walks` take them. Assumes nothing.
-use Rattle.register.proofs.Reply as R
-use Rattle.register.proofs.Reply.Laws as R′
 use Rattle.walks.proofs.Datum.{Datum, Law, struct, struct-law}
 use Rattle.hearing.proofs.Hearing as H
 use Rattle.hearing.proofs.Hearing.Laws as H′
@@ -18,9 +16,3 @@ BookingD = struct B.the-type
 
 abbrev pub BookingL : Law BookingD
 BookingL = struct-law B.the-type B′.the-laws B′.the-plain
-
-abbrev pub ReplyD : Datum
-ReplyD = struct R.the-type
-
-abbrev pub ReplyL : Law ReplyD
-ReplyL = struct-law R.the-type R′.the-laws R′.the-plain

@@ -23,7 +23,7 @@ use Rattle.register.specs.declared.Turn.{Turn}
 use Rattle.register.specs.State.{State, stateOf, talliesIn, bookIn, withCounts, settle}
 use Rattle.register.specs.Register.{lostIn, wonIn}
 use Rattle.register.proofs.Settling.{bare, both-followed, follows, followed-bare, settle-is}
-use Rattle.register.proofs.Data.{TurnD}
+use Rattle.register.proofs.Data.{TurnD, ReplyD}
 use Rattle.walks.specs.Out.{Ends}
 use Rattle.walks.specs.Swept.{sought}
 use Rattle.walks.proofs.Walking as Walking
@@ -31,7 +31,7 @@ use Rattle.walks.proofs.Seconds as Seconds
 use Rattle.hearing.specs.declared.Booking.{Booking}
 use Rattle.hearing.specs.Hear.{recordFor}
 use Rattle.hearing.specs.Booking.{holderOf, started, Steps, freeing, marking, FreesOne, MarksOne, Booked, rewatched, replyOf, freedState, markedState, freedOut, markedOut}
-use Rattle.hearing.proofs.Data.{HearingD, BookingD, ReplyD}
+use Rattle.hearing.proofs.Data.{HearingD, BookingD}
 use Rattle.hearing.proofs.Finding.{record-its, record-idle}
 
 -- ---- the search

@@ -1,6 +1,8 @@
--- The plain types of the register's walks, as the theorems take them. Assumes nothing.
+-- The plain types of the register, as the theorems of `walks` take them: a turn and a reply. Assumes nothing.
 use Rattle.register.proofs.Turn as T
 use Rattle.register.proofs.Turn.Laws as T′
+use Rattle.register.proofs.Reply as R
+use Rattle.register.proofs.Reply.Laws as R′
 use Rattle.walks.proofs.Datum.{Datum, Law, struct, struct-law}
 
 abbrev pub TurnD : Datum
@@ -8,3 +10,9 @@ TurnD = struct T.the-type
 
 abbrev pub TurnL : Law TurnD
 TurnL = struct-law T.the-type T′.the-laws T′.the-plain
+
+abbrev pub ReplyD : Datum
+ReplyD = struct R.the-type
+
+abbrev pub ReplyL : Law ReplyD
+ReplyL = struct-law R.the-type R′.the-laws R′.the-plain

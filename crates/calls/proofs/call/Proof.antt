@@ -7,7 +7,7 @@ use Rattle.walks.specs.Out.{Ends}
 use Rattle.walks.proofs.Calling.{meets}
 use Rattle.register.specs.State.{stateOf}
 use Rattle.register.specs.Answers.{outOf}
-use Rattle.hearing.proofs.Data.{ReplyD, ReplyL}
+use Rattle.register.proofs.Data.{ReplyD, ReplyL}
 use Rattle.calls.specs.Calls.{called}
 use Rattle.calls.specs.Told.{toldOf, isReady, aloneReply}
 use Rattle.calls.specs.Stages.{Fit, carriedOut}

@@ -1,6 +1,6 @@
 -- `hearing::mark_times` meets its contract: an instance of `walks`, `Walking.antt`. Assumes nothing.
-use Rattle.register.proofs.Data.{TurnD, TurnL}
-use Rattle.hearing.proofs.Data.{BookingD, BookingL, ReplyD, ReplyL}
+use Rattle.register.proofs.Data.{TurnD, TurnL, ReplyD, ReplyL}
+use Rattle.hearing.proofs.Data.{BookingD, BookingL}
 use Rattle.hearing.proofs.Runs.{ofMark, mark-enough}
 use contract.Running.{givenOf, tables, tablesOf}
 use denote.Triple.Spec.{tripleOf}

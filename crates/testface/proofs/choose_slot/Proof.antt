@@ -1,7 +1,7 @@
 -- `choose_slot` meets its contract: an instance of `Then.antt` of walks. Assumes nothing.
 use mathlib.Core.Path.{_∙_}
 use Rattle.walks.specs.Out.{out, Ends}
-use Rattle.hearing.proofs.Data.{ReplyD, ReplyL}
+use Rattle.register.proofs.Data.{ReplyD, ReplyL}
 use Rattle.calls.specs.Stages.{Sized, Fit, carriedOut}
 use Rattle.calls.proofs.Data.{CaseD, CaseL}
 use Rattle.calls.proofs.Joining.{ends-at}

@@ -3,7 +3,7 @@ use mathlib.Core.Path.{_≡_, refl}
 use lib.ListN.{length}
 use Rattle.limits.specs.Limits.{slotTimes}
 use Rattle.walks.specs.Out.{out, Ends}
-use Rattle.hearing.proofs.Data.{ReplyD, ReplyL}
+use Rattle.register.proofs.Data.{ReplyD, ReplyL}
 use Rattle.calls.specs.Stages.{Sized}
 use Rattle.testface.specs.Testface.{packed, packedOut}
 use Rattle.testface.proofs.Data.{PackedD, PackedL}

@@ -5,7 +5,7 @@ use lib.ListN.{length}
 use Rattle.limits.specs.Limits.{records}
 use Rattle.ship.specs.declared.Station.{Station}
 use Rattle.walks.specs.Out.{Ends}
-use Rattle.hearing.proofs.Data.{ReplyD, ReplyL}
+use Rattle.register.proofs.Data.{ReplyD, ReplyL}
 use Rattle.calls.specs.Stages.{Fit, older, doneOut, agedOut}
 use Rattle.calls.proofs.Joining.{aged-fits}
 use Rattle.calls.proofs.Data.{CaseD, CaseL}

@@ -1,7 +1,8 @@
 -- `calls::stages::announce` meets its contract: an instance of `Then.antt` of walks. Assumes nothing.
 use Rattle.walks.specs.Out.{Ends}
 use Rattle.hearing.specs.Booking.{Booked, freedOut, markedOut}
-use Rattle.hearing.proofs.Data.{BookingD, BookingL, ReplyD, ReplyL}
+use Rattle.register.proofs.Data.{ReplyD, ReplyL}
+use Rattle.hearing.proofs.Data.{BookingD, BookingL}
 use Rattle.calls.specs.Stages.{announcedOut}
 use Rattle.calls.proofs.Joining.{freed-fits, announced}
 use contract.Running.{givenOf, tables, tablesOf}

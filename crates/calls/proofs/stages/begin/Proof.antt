@@ -7,7 +7,7 @@ use Rattle.limits.specs.Limits.{records}
 use Rattle.ship.specs.declared.Station.{Station}
 use Rattle.ship.specs.Ship.{blank}
 use Rattle.walks.specs.Out.{Ends}
-use Rattle.hearing.proofs.Data.{ReplyD, ReplyL}
+use Rattle.register.proofs.Data.{ReplyD, ReplyL}
 use Rattle.calls.specs.Stages.{Sized, Fit, isNew, clearedOut, doneOut}
 use Rattle.calls.proofs.Joining.{begun-is}
 use Rattle.calls.proofs.Data.{CaseD, CaseL}

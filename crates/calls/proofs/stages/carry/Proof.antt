@@ -1,6 +1,6 @@
 -- `calls::stages::carry` meets its contract: an instance of `Then.antt` of walks. Assumes nothing.
 use Rattle.walks.specs.Out.{Ends}
-use Rattle.hearing.proofs.Data.{ReplyD, ReplyL}
+use Rattle.register.proofs.Data.{ReplyD, ReplyL}
 use Rattle.calls.specs.Stages.{Sized, Fit, passOut, agedOut, carriedOut}
 use Rattle.calls.proofs.Joining.{later-fits, carried-is}
 use Rattle.calls.proofs.Data.{CaseD, CaseL}

@@ -3,7 +3,8 @@ use mathlib.Core.Path.{_≡_}
 use mathlib.Core.Bool.{true}
 use Rattle.walks.specs.Out.{Ends}
 use Rattle.choosing.specs.Owning.{Owns, ownedOut}
-use Rattle.choosing.proofs.Data.{OwningD, OwningL, ReplyD, ReplyL}
+use Rattle.register.proofs.Data.{ReplyD, ReplyL}
+use Rattle.choosing.proofs.Data.{OwningD, OwningL}
 use Rattle.calls.specs.Stages.{Fit, isChoose, drawnOut, doneOut}
 use Rattle.calls.proofs.Joining.{owns-fits, chosen-is}
 use Rattle.calls.proofs.Data.{CaseD, CaseL}

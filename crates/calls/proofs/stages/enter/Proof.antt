@@ -4,7 +4,8 @@ use lib.ListN.{length}
 use Rattle.limits.specs.Limits.{records}
 use Rattle.walks.specs.Out.{Ends}
 use Rattle.hearing.specs.Booking.{Booked, storedIn}
-use Rattle.hearing.proofs.Data.{BookingD, BookingL, ReplyD, ReplyL}
+use Rattle.register.proofs.Data.{ReplyD, ReplyL}
+use Rattle.hearing.proofs.Data.{BookingD, BookingL}
 use Rattle.calls.specs.Stages.{announcedOut, enteredOut}
 use Rattle.calls.proofs.Joining.{stored-fits}
 use contract.Running.{givenOf, tables, tablesOf}

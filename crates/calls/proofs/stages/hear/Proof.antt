@@ -3,7 +3,8 @@ use mathlib.Core.Path.{_≡_}
 use mathlib.Core.Bool.{true}
 use Rattle.walks.specs.Out.{Ends}
 use Rattle.hearing.specs.Booking.{Booked}
-use Rattle.hearing.proofs.Data.{BookingD, BookingL, ReplyD, ReplyL}
+use Rattle.register.proofs.Data.{ReplyD, ReplyL}
+use Rattle.hearing.proofs.Data.{BookingD, BookingL}
 use Rattle.calls.specs.Stages.{Sized, Fit, isHear, Sought, enteredOut, doneOut}
 use Rattle.calls.proofs.Joining.{sought-fits, heard-is}
 use Rattle.calls.proofs.Data.{CaseD, CaseL}

@@ -5,7 +5,7 @@ use Rattle.limits.specs.Limits.{slotTimes}
 use Rattle.book.specs.Watch.{newWatch}
 use Rattle.register.specs.declared.Answer.the-variants.{Begun}
 use Rattle.walks.specs.Out.{Ends}
-use Rattle.hearing.proofs.Data.{ReplyD, ReplyL}
+use Rattle.register.proofs.Data.{ReplyD, ReplyL}
 use Rattle.calls.specs.Stages.{Sized, clearedOut}
 use Rattle.calls.proofs.Data.{CaseD, CaseL}
 use contract.Running.{givenOf, tables, tablesOf}

@@ -4,7 +4,7 @@ use mathlib.Core.Bool.{true}
 use lib.ListN.{length}
 use Rattle.limits.specs.Limits.{slotTimes, records}
 use Rattle.walks.specs.Out.{Ends}
-use Rattle.hearing.proofs.Data.{ReplyD, ReplyL}
+use Rattle.register.proofs.Data.{ReplyD, ReplyL}
 use Rattle.calls.proofs.Data.{CaseD, CaseL, SumsD, SumsL}
 use Rattle.calls.specs.Stages.{Fit, isRest, sumsIn, RestNeeds, restBy, doneOut}
 use Rattle.calls.proofs.Joining.{rest-needs, rest-is}
