@@ -123,6 +123,33 @@ better-none b w i z =
     keep : (x y : ℕ) → x ≡ max x (min y (keyOf w i))
     keep x y = omega (arith, z)
 
+-- so does one whose key is not above the fourth
+pub better-low : (ws : ℕ → ℕ) (n : ℕ) (b : Best) → BestIn ws n b → (w i : ℕ) → keyOf w i ≤ b .fourth → b ≡ betterOf b w i
+unfolding betterOf cutOf
+better-low ws n b h w i l =
+    λ j. record {
+      first = same j;
+      second = keep (b .second) (b .first) (omega (arith, in-order .0, in-order .1, in-order .2)) j;
+      third = keep (b .third) (b .second) (omega (arith, in-order .1, in-order .2)) j;
+      fourth = keep (b .fourth) (b .third) l j;
+    }
+  where
+    cut : ℕ → ℕ
+    cut = cutOf (keys ws) n
+
+    falls : (k : ℕ) → cut (suc k) ≤ cut k
+    falls k = below-le (keys ws) (cut k) n
+
+    in-order : (b .second ≤ b .first) × (b .third ≤ b .second) × (b .fourth ≤ b .third)
+    in-order =
+        (omega (arith, h .one, h .two, falls 1), omega (arith, h .two, h .three, falls 2), omega (arith, h .three, h .four, falls 3))
+
+    same : b .first ≡ max (b .first) (keyOf w i)
+    same = omega (arith, l, in-order .0, in-order .1, in-order .2)
+
+    keep : (x y : ℕ) → keyOf w i ≤ x → x ≡ max x (min y (keyOf w i))
+    keep x y m = omega (arith, m)
+
 -- the cut is that after as many rounds as slots are needed beside f free ones
 pub cut-is : (ws : ℕ → ℕ) (n f : ℕ) (b : Best) → BestIn ws n b → cutAfter f b ≡ cutOf (keys ws) n (4 - f)
 unfolding cutAfter

@@ -5,7 +5,7 @@ pub mod Draws
 pub mod Keys
 pub mod Cutting
 pub mod Slots
-pub mod Gathering
+pub mod Looking
 pub mod Listing
 pub mod Data
 pub mod Loops

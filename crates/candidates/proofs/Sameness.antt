@@ -1,13 +1,13 @@
 -- Looking the holders of each slot up comes to the choice.
---     slot-worth   a slot's worth by what was looked up is its worth.        best-of      so the best keys are those of the window
+--     better-is    a slot leaves the best that its worth does.        best-of      so the best keys are those of the window
 --     lost-best    without our own position no slot has a key.        free-is      a slot is free by the book where its worth says so
 --     drawn-is     the draw picks what the choice says
 -- Assumes nothing.
 use mathlib.Core.Path.{_≡_, refl, sym, ap, subst, _∙_}
 use mathlib.Core.Bool.{Bool, true, false}
 use mathlib.Core.List.{List}
-use Prim.Native.Nat.{ℕ, zero, suc, _+_, _-_, _≤_, _<_, min}
-use native.Mathlib.Decide.{decLt}
+use Prim.Native.Nat.{ℕ, zero, suc, _+_, _-_, _*_, _%_, _≤_, _<_, min, max}
+use native.Mathlib.Decide.{ℕ-discrete, decLt}
 use native.Mathlib.Numerals.{add-one}
 use native.Mathlib.Omega.{arith}
 use lib.ListN.{getD}
@@ -18,27 +18,27 @@ use Rattle.laws.specs.Counting.{one}
 use Rattle.laws.specs.Ranges.{least, howMany}
 use Rattle.laws.proofs.Tests.{both-no, either-false, pick-has}
 use Rattle.laws.proofs.Those.{those-ext}
-use Rattle.limits.specs.Limits.{widest, mostTimeOut}
+use Rattle.limits.specs.Limits.{frameSlots, slotTimes, widest, mostTimeOut}
 use Rattle.ship.specs.declared.Ship.{Ship}
 use Rattle.ship.specs.Ship.{blank}
+use Rattle.book.specs.Book.{place}
 use Rattle.walks.specs.Folded.{folded}
-use Rattle.distance.specs.Distance.{weKnown, ownLevel, baseLevel, top, levelOf}
+use Rattle.distance.specs.Distance.{weKnown, ownLevel, baseLevel, heldOffLevel, top, levelOf}
 use Rattle.candidates.specs.declared.Window.{Window}
 use Rattle.candidates.specs.declared.rounds.Best.{Best}
-use Rattle.candidates.specs.declared.slot.Held.{Held}
 use Rattle.candidates.specs.declared.slot.Slot.{Slot}
-use Rattle.candidates.specs.Slot.{View, frame, isNone, isOwn, isRecord, stationOf, earlier}
+use Rattle.candidates.specs.Slot.{View, holderAt, frame, isNone, isOwn, isRecord, stationOf, earlier}
 use Rattle.candidates.specs.Window.{isFree, isAvailable, free, rank, candidate, candidates, picked}
 use Rattle.candidates.specs.Rounds.{keyOf, keys, cutOf, within, inCut, BestIn, betterOf, cutAfter}
 use Rattle.candidates.specs.Choice.{worthIn, candidatesIn, choice}
-use Rattle.candidates.specs.Scanning.{level, worthBy, gathered, heldSlot, idle, slotOf, freeIn, freeUptoFour, recordOf, levelBy, levelAt, holderIn, slotLevel, noneYet, candidateBy, drawn}
-use Rattle.candidates.proofs.Four.{best-none, best-next, better-none, cut-is}
+use Rattle.candidates.specs.Scanning.{level, worthBy, slotOf, freeIn, freeUptoFour, recordOf, levelBy, levelAt, heldIn, slotLevel, noneYet, boundOf, candidateBy, drawn}
+use Rattle.candidates.proofs.Four.{best-none, best-next, better-none, better-low, cut-is}
 use Rattle.candidates.proofs.Ranking.{candidate-cut, key-not}
-use Rattle.candidates.proofs.Keys.{over-3}
+use Rattle.candidates.proofs.Keys.{key-zero, key-mid, key-big, over-3}
 use Rattle.candidates.proofs.Cutting.{reused-is}
-use Rattle.candidates.proofs.Gathering.{gathered-low}
-use Rattle.candidates.proofs.Slots.{worth-earlier}
-use Rattle.candidates.proofs.Levels.{Comes, comes, free-worth, lost-worth}
+use Rattle.candidates.proofs.Looking.{least-same, levelIn, met, met-low}
+use Rattle.candidates.proofs.Slots.{worth-earlier, worth-free, worth-held}
+use Rattle.candidates.proofs.Levels.{comes, free-worth, lost-worth}
 
 -- ---- a slot whose holders are looked up
 
@@ -54,77 +54,108 @@ module _ (v : View) where
       go true = ap (λ (p : Ship). pick (isNone h) top (pick (isOwn h) ownLevel (levelOf p (getD (v .reg) (h - 1) blank)))) e
       go false = refl
 
-  nobody : level v 0 ≡ top
-  unfolding level isNone
-  nobody = refl
+-- ---- up to its bound a slot is none of the best
 
-  -- the fold is the least of the levels
-  folds : (x : Slot) → x .ship ≡ v .ship → (n : ℕ)
-      → folded top (holderIn x) (λ h. levelAt (v .reg) h x) (λ low h l i. min low l) n ≡ least top (λ i. level v (getD (x .holders) i 0)) n
-  unfolding folded least holderIn
-  folds x e zero = refl
-  folds x e (suc n) = omega (arith, folds x e n, level-at (getD (x .holders) n 0) x e)
+-- its key is not above the fourth
+low-key : (b : Best) (low i : ℕ) → low ≤ boundOf b → keyOf (worthBy false low) i ≤ b .fourth
+unfolding boundOf
+low-key b low i l = go (ℕ-discrete low top) (ℕ-discrete (low - heldOffLevel) 0) (decLt (low - heldOffLevel) top)
+  where
+    by : (w : ℕ) → w ≡ worthBy false low → keyOf w i ≤ b .fourth → keyOf (worthBy false low) i ≤ b .fourth
+    by w e q = subst (λ (x : ℕ). keyOf x i ≤ b .fourth) e q
 
-  held-level : (f : ℕ → ℕ) (n : ℕ) → n ≤ 8 → slotLevel (v .reg) (heldSlot (v .ship) (gathered f n)) ≡ least top (λ j. level v (f j)) n
-  unfolding slotLevel heldSlot
-  held-level f n l =
-      folds (heldSlot (v .ship) (gathered f n)) refl (gathered f n .times) ∙ gathered-low f (level v) nobody n l .is
+    go : Dec (low ≡ top) → Dec (low - heldOffLevel ≡ 0) → Dec (low - heldOffLevel < top) → keyOf (worthBy false low) i ≤ b .fourth
+    go (yes e) z t = by top (worth-free false low refl e) (omega (arith, key-big top i (omega arith) (omega arith)))
+    go (no e) (yes z) t = by (low - heldOffLevel) (worth-held false low refl e) (omega (arith, key-zero (low - heldOffLevel) i z))
+    go (no e) (no z) (yes t) = by (low - heldOffLevel) (worth-held false low refl e) (omega (arith, key-mid (low - heldOffLevel) i (omega (arith, z)) t))
+    go (no e) (no z) (no t) = by (low - heldOffLevel) (worth-held false low refl e) (omega (arith, key-big (low - heldOffLevel) i (omega (arith, z)) (omega arith)))
 
-  held-earlier : (g : Held) → heldSlot (v .ship) g .earlier ≡ false
-  unfolding heldSlot
-  held-earlier g = refl
-
-  idle-earlier : idle (v .ship) .earlier ≡ true
-  unfolding idle
-  idle-earlier = refl
+-- so two levels that agree above the bound leave the same best
+same-best : (ws : ℕ → ℕ) (n : ℕ) (b : Best) → BestIn ws n b → (low l i : ℕ) → max (boundOf b) low ≡ max (boundOf b) l
+    → betterOf b (worthBy false low) i ≡ betterOf b (worthBy false l) i
+same-best ws n b h low l i e = go (decLt (boundOf b) low)
+  where
+    go : Dec (boundOf b < low) → betterOf b (worthBy false low) i ≡ betterOf b (worthBy false l) i
+    go (yes p) = let q : low ≡ l = omega arith in ap (λ (x : ℕ). betterOf b (worthBy false x) i) q
+    go (no p) =
+        sym (better-low ws n b h (worthBy false low) i (low-key b low i (omega arith)))
+        ∙ better-low ws n b h (worthBy false l) i (low-key b l i (omega arith))
 
 -- ---- the slots of a window
 
-module _ (v : View) (w : Window) (m : w .timeout < mostTimeOut + 1) where
-  abbrev ws : ℕ → ℕ
-  ws = worthIn v w
-
-  abbrev slotAt : ℕ → Slot
-  slotAt = slotOf (v .slots) w (v .ship)
-
-  abbrev worthAt : Slot → ℕ
-  worthAt x = worthBy (x .earlier) (slotLevel (v .reg) x)
-
-  slot-worth : weKnown (v .ship) ≡ true → (i : ℕ) → worthAt (slotAt i) ≡ ws i
-  unfolding slotOf
-  slot-worth k i = go (earlier (v .slots) (w .present) (w .first + i)) refl
-    where
-      f : ℕ → ℕ
-      f = frame (v .slots) (w .present) (w .first + i)
-
-      c : Comes v (w .present) (w .first + i) (w .timeout)
-      c = comes v (w .present) (w .first + i) (w .timeout) k
-
-      is : (t : Bool) → earlier (v .slots) (w .present) (w .first + i) ≡ t → worthBy t (least top (λ j. level v (f j)) (suc (w .timeout))) ≡ ws i
-      is t e = ap (λ (b : Bool). worthBy b (least top (λ j. level v (f j)) (suc (w .timeout)))) (sym e) ∙ c .worths
-
-      go : (t : Bool) → earlier (v .slots) (w .present) (w .first + i) ≡ t
-          → worthAt (pick (earlier (v .slots) (w .present) (w .first + i)) (idle (v .ship)) (heldSlot (v .ship) (gathered f (w .timeout + 1)))) ≡ ws i
-      go true e =
-          ap (λ (b : Bool). worthAt (pick b (idle (v .ship)) (heldSlot (v .ship) (gathered f (w .timeout + 1))))) e
-          ∙ sym (worth-earlier (idle (v .ship) .earlier) (slotLevel (v .reg) (idle (v .ship))) (idle-earlier v))
-          ∙ worth-earlier true (least top (λ j. level v (f j)) (suc (w .timeout))) refl ∙ is true e
-      go false e =
-          ap (λ (b : Bool). worthAt (pick b (idle (v .ship)) (heldSlot (v .ship) (gathered f (w .timeout + 1))))) e
-          ∙ ap (λ (b : Bool). worthBy b (slotLevel (v .reg) (heldSlot (v .ship) (gathered f (w .timeout + 1))))) (held-earlier v (gathered f (w .timeout + 1)))
-          ∙ ap (worthBy false) (held-level v f (w .timeout + 1) (omega arith) ∙ ap (least top (λ j. level v (f j))) (add-one (w .timeout)))
-          ∙ is false e
+module _ (v : View) (w : Window) where
+  -- the slot i, looked at where the best so far are b
+  abbrev slotAt : Best → ℕ → Slot
+  slotAt b = slotOf (v .slots) w (v .ship) (boundOf b)
 
   -- the best keys after n slots
   abbrev pub bestAfter : ℕ → Best
-  bestAfter = folded noneYet (slotOf (v .slots) w (v .ship)) (slotLevel (v .reg)) (λ b x low i. betterOf b (worthBy (x .earlier) low) i)
+  bestAfter = folded noneYet slotAt (slotLevel (v .reg) (v .slots)) (λ b x low i. betterOf b (worthBy (x .earlier) low) i)
 
-  pub best-of : weKnown (v .ship) ≡ true → (n : ℕ) → n ≤ 512 → BestIn (worthIn v w) n (bestAfter n)
-  unfolding folded
-  best-of k zero l = best-none ws
-  best-of k (suc n) l =
-      subst (λ (j : ℕ). BestIn ws j (bestAfter (suc n))) (add-one n)
-      (best-next ws n (bestAfter n) (omega arith) (best-of k n (omega arith)) (worthAt (slotAt n)) (bestAfter (suc n)) (slot-worth k n) refl)
+  module _ (k : weKnown (v .ship) ≡ true) where
+    abbrev ws : ℕ → ℕ
+    ws = worthIn v w
+
+    module _ (b : Best) (i : ℕ) where
+      abbrev x : Slot
+      x = slotAt b i
+
+      abbrev at : ℕ
+      at = w .first + i
+
+      abbrev lowest : ℕ
+      lowest = least top (λ j. level v (frame (v .slots) (w .present) at j)) (suc (w .timeout))
+
+      -- what the code makes of it
+      abbrev better : Best
+      better = betterOf b (worthBy (x .earlier) (slotLevel (v .reg) (v .slots) x)) i
+
+      parts : (x .earlier ≡ earlier (v .slots) (w .present) at) × (x .times ≡ pick (earlier (v .slots) (w .present) at) 0 (w .timeout + 1)) × (x .ship ≡ v .ship) × (x .bound ≡ boundOf b)
+      unfolding slotOf
+      parts = (refl, refl, refl, refl)
+
+      holder-is : (j : ℕ) → heldIn (v .slots) x j ≡ frame (v .slots) (w .present) at j
+      unfolding heldIn slotOf holderAt
+      holder-is j =
+          let e : (place (w .present) at + frameSlots * j) % slotTimes ≡ place (w .present) (at + frameSlots * j) = omega arith in
+          ap (λ (p : ℕ). getD (v .slots) p 0) e
+
+      level-is : (j : ℕ) → levelIn (v .reg) (v .slots) x j ≡ level v (frame (v .slots) (w .present) at j)
+      level-is j = level-at v (heldIn (v .slots) x j) x (parts .2) ∙ ap (level v) (holder-is j)
+
+      looked : x .times ≡ w .timeout + 1 → max (boundOf b) (slotLevel (v .reg) (v .slots) x) ≡ max (boundOf b) lowest
+      unfolding slotLevel
+      looked e =
+          ap (λ (c : ℕ). max c (met (v .reg) (v .slots) x (x .times))) (sym (parts .3))
+          ∙ met-low (v .reg) (v .slots) x (x .times)
+          ∙ ap (λ (c : ℕ). max c (least top (levelIn (v .reg) (v .slots) x) (x .times))) (parts .3)
+          ∙ ap (max (boundOf b)) (ap (least top (levelIn (v .reg) (v .slots) x)) (e ∙ add-one (w .timeout))
+          ∙ least-same top (levelIn (v .reg) (v .slots) x) (λ j. level v (frame (v .slots) (w .present) at j)) (suc (w .timeout)) (λ j l. level-is j))
+
+      is : (t : Bool) → earlier (v .slots) (w .present) at ≡ t → worthBy t lowest ≡ ws i
+      is t e = ap (λ (u : Bool). worthBy u lowest) (sym e) ∙ comes v (w .present) at (w .timeout) k .worths
+
+      better-is : (n : ℕ) → BestIn ws n b → better ≡ betterOf b (ws i) i
+      better-is n h = go (earlier (v .slots) (w .present) at) refl
+        where
+          by : (t : Bool) → earlier (v .slots) (w .present) at ≡ t → better ≡ betterOf b (worthBy t (slotLevel (v .reg) (v .slots) x)) i
+          by t e = ap (λ (u : Bool). betterOf b (worthBy u (slotLevel (v .reg) (v .slots) x)) i) (parts .0 ∙ e)
+
+          go : (t : Bool) → earlier (v .slots) (w .present) at ≡ t → better ≡ betterOf b (ws i) i
+          go true e =
+              by true e
+              ∙ ap (λ (u : ℕ). betterOf b u i) (sym (worth-earlier true (slotLevel (v .reg) (v .slots) x) refl) ∙ worth-earlier true lowest refl ∙ is true e)
+          go false e =
+              by false e
+              ∙ same-best ws n b h (slotLevel (v .reg) (v .slots) x) lowest i (looked (parts .1 ∙ ap (λ (u : Bool). pick u 0 (w .timeout + 1)) e))
+              ∙ ap (λ (u : ℕ). betterOf b u i) (is false e)
+
+    pub best-of : (n : ℕ) → n ≤ 512 → BestIn (worthIn v w) n (bestAfter n)
+    unfolding folded
+    best-of zero l = best-none ws
+    best-of (suc n) l =
+        subst (λ (j : ℕ). BestIn ws j (bestAfter (suc n))) (add-one n)
+        (best-next ws n (bestAfter n) (omega arith) (best-of n (omega arith)) (ws n) (bestAfter (suc n)) refl (better-is (bestAfter n) n n (best-of n (omega arith))))
 
 -- ---- a window where our own position is not known
 
@@ -198,19 +229,13 @@ module _ (v : View) (w : Window) (fits : w .width ≤ widest) where
         by (yes l) j i = few-free l (h l) j i
         by (no l) j i = four-free (omega (arith, frees)) j
 
--- ---- a slot has at most eight holders to be looked at
+-- ---- what the look at a slot needs
 
-idle-times : (p : Ship) → idle p .times < 9
-unfolding idle
-idle-times p = omega arith
-
-held-times : (p : Ship) (f : ℕ → ℕ) (n : ℕ) → n ≤ 8 → heldSlot p (gathered f n) .times < 9
-unfolding heldSlot
-held-times p f n l = omega (arith, gathered-low f (λ h. top) refl n l .few)
-
-pub slot-times : (slots : List ℕ) (w : Window) (p : Ship) (i : ℕ) → w .timeout < mostTimeOut + 1 → slotOf slots w p i .times < 9
+pub slot-times : (slots : List ℕ) (w : Window) (p : Ship) (bound i : ℕ) → w .timeout < mostTimeOut + 1 → slotOf slots w p bound i .times < 9
 unfolding slotOf
-slot-times slots w p i m =
-    pick-has (λ (x : Slot). x .times < 9) (earlier slots (w .present) (w .first + i)) (idle p)
-    (heldSlot p (gathered (frame slots (w .present) (w .first + i)) (w .timeout + 1))) (idle-times p)
-    (held-times p (frame slots (w .present) (w .first + i)) (w .timeout + 1) (omega arith))
+slot-times slots w p bound i m =
+    pick-has (λ (n : ℕ). n < 9) (earlier slots (w .present) (w .first + i)) 0 (w .timeout + 1) (omega arith) (omega arith)
+
+pub slot-from : (slots : List ℕ) (w : Window) (p : Ship) (bound i : ℕ) → slotOf slots w p bound i .from < slotTimes
+unfolding slotOf
+slot-from slots w p bound i = omega arith

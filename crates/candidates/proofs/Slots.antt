@@ -1,4 +1,4 @@
--- A slot by the book alone, by the tests of the code: the slot a frame earlier, the place a frame on, whether it is free, and the holders to be looked at.
+-- A slot by the book alone, by the tests of the code: the slot a frame earlier, the place a frame on, whether it is free, and the holder to be looked at.
 -- Assumes nothing.
 use mathlib.Core.Path.{_≡_, refl, sym, ap, _∙_}
 use mathlib.Core.Bool.{Bool, true, false}
@@ -10,10 +10,10 @@ use native.Mathlib.Omega.{arith}
 use lib.ListN.{getD}
 use lib.Dec.{eqb}
 use borrow.Author.Tests.{eq-eqb, ne-eqb, lt-ltb, le-ltb, le-leb, lt-leb}
-use Rattle.laws.specs.Tests.{both, either}
+use Rattle.laws.specs.Tests.{pick, both, either}
 use Rattle.laws.specs.Counting.{one}
 use Rattle.laws.specs.Ranges.{every, howMany}
-use Rattle.laws.proofs.Sums.{one-true, one-false}
+use Rattle.laws.proofs.Sums.{one-true}
 use Rattle.limits.specs.Limits.{frameSlots, slotTimes}
 use Rattle.ship.specs.declared.Ship.{Ship}
 use Rattle.ship.specs.declared.Station.{Station}
@@ -22,9 +22,12 @@ use Rattle.distance.specs.Distance.{ownLevel, baseLevel, heldOffLevel, top, lev
 use Rattle.candidates.specs.declared.Window.{Window}
 use Rattle.candidates.specs.declared.rounds.Best.{Best}
 use Rattle.candidates.specs.declared.slot.Slot.{Slot}
-use Rattle.candidates.specs.declared.slot.Held.{Held}
 use Rattle.candidates.specs.Slot.{holderAt, frame, isOwn, isNone, isRecord, earlier}
-use Rattle.candidates.specs.Scanning.{worthBy, isNew, gathered, idle, heldSlot, slotOf, freeAt, freeIn, freeUptoFour, recordOf, levelBy, reusedBy, candidateBy}
+use Rattle.candidates.specs.Scanning.{worthBy, slotOf, freeAt, freeIn, freeUptoFour, recordOf, levelBy, heldIn, stays, holderIn, reusedBy, candidateBy}
+
+-- a slot by its parts
+abbrev pub slotMade : ℕ → ℕ → ℕ → Bool → Ship → Slot
+slotMade from times bound earlier ship = record { from = from; times = times; bound = bound; earlier = earlier; ship = ship }
 
 -- ---- the slot a frame earlier
 
@@ -136,20 +139,6 @@ pub few-free : (slots : List ℕ) (w : Window) (i n : ℕ) → n ≡ howMany (fr
 unfolding freeUptoFour
 few-free slots w i n e q l = omega (arith, ap (howMany (freeIn slots w)) q)
 
--- ---- a holder that is to be looked at
-
-pub new-none : (h last : ℕ) → h ≡ 0 → 0 ≡ one (isNew h last)
-unfolding isNew isNone
-new-none h last e = sym (one-false (simp (eq-eqb h 0 e)))
-
-pub new-same : (h last : ℕ) → (h ≡ 0 → ⊥) → h ≡ last → 0 ≡ one (isNew h last)
-unfolding isNew isNone
-new-same h last n e = sym (one-false (simp (ne-eqb h 0 n, eq-eqb h last e)))
-
-pub new-yes : (h last : ℕ) → (h ≡ 0 → ⊥) → (h ≡ last → ⊥) → 1 ≡ one (isNew h last)
-unfolding isNew isNone
-new-yes h last n e = sym (one-true (simp (ne-eqb h 0 n, ne-eqb h last e)))
-
 -- ---- a holder's record, and its level
 
 module _ (h : ℕ) where
@@ -223,15 +212,38 @@ module _ (t : Bool) (low : ℕ) where
 
 -- ---- the slot of a window as it is to be looked at
 
-module _ (slots : List ℕ) (w : Window) (p : Ship) (i : ℕ) where
-  pub slot-idle : earlier slots (w .present) (w .first + i) ≡ true → idle p ≡ slotOf slots w p i
+module _ (slots : List ℕ) (w : Window) (p : Ship) (bound i : ℕ) where
+  -- its times, by whether the slot a frame earlier is own
+  pub slot-made : (at n : ℕ) (e : Bool) → at ≡ place (w .present) (w .first + i) → n ≡ pick e 0 (w .timeout + 1) → e ≡ earlier slots (w .present) (w .first + i)
+      → slotMade at n bound e p ≡ slotOf slots w p bound i
   unfolding slotOf
-  slot-idle e = simp e
+  slot-made at n e q r s =
+      ap (λ (t : ℕ). slotMade at t bound e p) r ∙ ap (λ (t : ℕ). slotMade t (pick e 0 (w .timeout + 1)) bound e p) q
+      ∙ ap (λ (t : Bool). slotMade (place (w .present) (w .first + i)) (pick t 0 (w .timeout + 1)) bound t p) s
 
-  pub slot-held : earlier slots (w .present) (w .first + i) ≡ false → (g : Held)
-      → g ≡ gathered (frame slots (w .present) (w .first + i)) (w .timeout + 1) → heldSlot p g ≡ slotOf slots w p i
-  unfolding slotOf
-  slot-held e g q = ap (heldSlot p) q ∙ simp e
+-- ---- the holder to be looked at
+
+pub held-at : (slots : List ℕ) (x : Slot) (i p : ℕ) → p ≡ (x .from + frameSlots * i) % slotTimes → getD slots p 0 ≡ heldIn slots x i
+unfolding heldIn
+held-at slots x i p e = ap (λ (q : ℕ). getD slots q 0) e
+
+module _ (slots : List ℕ) (x : Slot) (low i : ℕ) where
+  pub holder-low : low ≤ x .bound → 0 ≡ holderIn slots x low i
+  unfolding holderIn
+  holder-low l = simp (le-leb low (x .bound) l)
+
+  module _ (l : x .bound < low) where
+    pub holder-first : i ≡ 0 → heldIn slots x i ≡ holderIn slots x low i
+    unfolding holderIn stays
+    holder-first e = simp (lt-leb low (x .bound) l, le-ltb 0 i (omega arith))
+
+    pub holder-same : (i ≡ 0 → ⊥) → heldIn slots x i ≡ heldIn slots x (i - 1) → 0 ≡ holderIn slots x low i
+    unfolding holderIn stays
+    holder-same n e = simp (lt-leb low (x .bound) l, lt-ltb 0 i (omega (arith, n)), eq-eqb (heldIn slots x i) (heldIn slots x (i - 1)) e)
+
+    pub holder-other : (i ≡ 0 → ⊥) → (heldIn slots x i ≡ heldIn slots x (i - 1) → ⊥) → heldIn slots x i ≡ holderIn slots x low i
+    unfolding holderIn stays
+    holder-other n e = simp (lt-leb low (x .bound) l, lt-ltb 0 i (omega (arith, n)), ne-eqb (heldIn slots x i) (heldIn slots x (i - 1)) e)
 
 -- ---- a candidate
 

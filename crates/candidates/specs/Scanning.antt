@@ -1,23 +1,23 @@
 -- How the code finds the slot that a draw picks, by one look at each slot of the window: what the book alone tells is asked of the book, and only the holders that
--- it has of a slot are looked up in the register. No promise needs this: proofs/Sameness.antt has that it comes to the choice.
+-- it has of a slot are looked up in the register, no further than the slot can be one of the four best. No promise needs this: proofs/Sameness.antt has that it
+-- comes to the choice.
 -- Assumes nothing.
-use Prim.Native.Nat.{ℕ, zero, suc, _+_, _-_, _%_, min}
+use Prim.Native.Nat.{ℕ, _+_, _-_, _*_, _/_, _%_, min}
 use mathlib.Core.Bool.{Bool, true, false, not}
-use mathlib.Core.List.{List, replicate}
-use lib.ListN.{getD, set}
-use lib.Dec.{eqb, ltb}
+use mathlib.Core.List.{List}
+use lib.ListN.{getD}
+use lib.Dec.{eqb, leb, ltb}
 use Rattle.laws.specs.Tests.{pick, both, either}
-use Rattle.laws.specs.Counting.{one}
-use Rattle.laws.specs.Loops.{upto}
 use Rattle.laws.specs.Ranges.{every, howMany, those}
+use Rattle.limits.specs.Limits.{frameSlots, slotTimes}
 use Rattle.ship.specs.declared.Ship.{Ship}
 use Rattle.ship.specs.declared.Station.{Station}
 use Rattle.ship.specs.Ship.{blank}
+use Rattle.book.specs.Book.{place}
 use Rattle.walks.specs.Folded.{folded}
 use Rattle.distance.specs.Distance.{ownLevel, baseLevel, heldOffLevel, top, levelOf}
 use Rattle.candidates.specs.declared.Window.{Window}
 use Rattle.candidates.specs.declared.Picked.{Picked}
-use Rattle.candidates.specs.declared.slot.Held.{Held}
 use Rattle.candidates.specs.declared.slot.Slot.{Slot}
 use Rattle.candidates.specs.declared.rounds.Best.{Best}
 use Rattle.candidates.specs.Slot.{View, frame, isNone, isOwn, isRecord, stationOf, earlier}
@@ -35,36 +35,16 @@ worthBy t low = pick t 0 (pick (eqb low top) top (low - heldOffLevel))
 
 -- ---- a slot as the book has it
 
--- the holder of the time before the time i, nobody for the first
-unfoldable pub before : (ℕ → ℕ) → ℕ → ℕ
-before f zero = 0
-before f (suc i) = f i
-
--- the holder h is to be looked at: it is somebody, and not the one of the frame before
-unfoldable pub isNew : ℕ → ℕ → Bool
-isNew h last = both (not (isNone h)) (not (eqb h last))
-
--- the holders to be looked at of the first n times
-unfoldable pub noneHeld : Held
-noneHeld = record { holders = replicate 8 0; times = 0 }
-
-unfoldable pub taking : (ℕ → ℕ) → Held → ℕ → Held
-taking f g i = record { holders = set (g .holders) (g .times) (f i); times = g .times + one (isNew (f i) (before f i)) }
-
-abbrev pub gathered : (ℕ → ℕ) → ℕ → Held
-gathered f = upto (taking f) noneHeld
-
--- the slot with the holders g; one that needs no look, since the slot a frame earlier is own
-unfoldable pub heldSlot : Ship → Held → Slot
-heldSlot p g = record { holders = g .holders; times = g .times; earlier = false; ship = p }
-
-unfoldable pub idle : Ship → Slot
-idle p = record { holders = replicate 8 0; times = 0; earlier = true; ship = p }
-
--- the slot i of a window
-unfoldable pub slotOf : List ℕ → Window → Ship → ℕ → Slot
-slotOf slots w p i =
-    pick (earlier slots (w .present) (w .first + i)) (idle p) (heldSlot p (gathered (frame slots (w .present) (w .first + i)) (w .timeout + 1)))
+-- the slot i of a window, none of the best up to the level `bound`; nothing is to be looked at where the slot a frame earlier is own
+unfoldable pub slotOf : List ℕ → Window → Ship → ℕ → ℕ → Slot
+slotOf slots w p bound i =
+    record {
+      from = place (w .present) (w .first + i);
+      times = pick (earlier slots (w .present) (w .first + i)) 0 (w .timeout + 1);
+      bound = bound;
+      earlier = earlier slots (w .present) (w .first + i);
+      ship = p;
+    }
 
 -- all times of a slot are nobody's, and the slot a frame earlier is not own
 unfoldable pub freeAt : List ℕ → ℕ → ℕ → ℕ → Bool
@@ -90,17 +70,31 @@ levelBy s h x = pick (isNone h) top (pick (isOwn h) ownLevel (pick (isRecord h) 
 unfoldable pub levelAt : List Station → ℕ → Slot → ℕ
 levelAt reg h x = levelBy (getD reg (recordOf h) blank) h x
 
--- the lowest level of the slot's holders
-unfoldable pub holderIn : Slot → ℕ → ℕ
-holderIn x i = getD (x .holders) i 0
+-- ---- the lowest level of a slot's holders
 
-unfoldable pub slotLevel : List Station → Slot → ℕ
-slotLevel reg x = folded top (holderIn x) (λ h. levelAt reg h x) (λ low h l i. min low l) (x .times)
+-- the holder of the slot's time i
+unfoldable pub heldIn : List ℕ → Slot → ℕ → ℕ
+heldIn slots x i = getD slots ((x .from + frameSlots * i) % slotTimes) 0
+
+-- the frame before has the same holder
+unfoldable pub stays : List ℕ → Slot → ℕ → Bool
+stays slots x i = both (ltb 0 i) (eqb (heldIn slots x i) (heldIn slots x (i - 1)))
+
+-- who is to be looked at: nobody where the slot is low enough already, or where the frame before has the same holder
+unfoldable pub holderIn : List ℕ → Slot → ℕ → ℕ → ℕ
+holderIn slots x low i = pick (either (leb low (x .bound)) (stays slots x i)) 0 (heldIn slots x i)
+
+unfoldable pub slotLevel : List Station → List ℕ → Slot → ℕ
+slotLevel reg slots x = folded top (holderIn slots x) (λ h. levelAt reg h x) (λ low h l i. min low l) (x .times)
 
 -- ---- the draw, by the book, the number of free slots and the four best keys
 
 unfoldable pub noneYet : Best
 noneYet = record { first = 0; second = 0; third = 0; fourth = 0 }
+
+-- up to this level a slot is none of the best: it is barred, or nearer than the fourth
+unfoldable pub boundOf : Best → ℕ
+boundOf b = heldOffLevel + (b .fourth / 512 - 1)
 
 -- the slot i is that of the key k: a key ends in 511 - i
 unfoldable pub keyHits : ℕ → ℕ → Bool

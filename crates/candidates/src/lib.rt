@@ -61,16 +61,16 @@ fn level_at(reg: &[Station], h: u16, x: Slot) -> u64
     level_by(reg[k], h, x)
 }
 
-// The lowest level of a slot's holders. The book is not asked: the slot has what it says.
+// The lowest level of a slot's holders.
 pub fn slot_level(reg: &[Station], book: &[u16], x: Slot) -> u64
-    requires { ⌜ (length (now reg) ≡ records) × (x .times < 9) ⌝ }
-    ensures { λ r. ⌜ r ≡ slotLevel (now (reg .entry)) x ⌝ }
+    requires { ⌜ (length (now reg) ≡ records) × ((length (now book) ≡ slotTimes) × ((x .from < slotTimes) × (x .times < 9))) ⌝ }
+    ensures { λ r. ⌜ r ≡ slotLevel (now (reg .entry)) (now (book .entry)) x ⌝ }
 {
     let mut low = nobodys(x);
     let n = times(x);
     let mut i: usize = 0;
     while i < n {
-        let h = holder(book, x, i);
+        let h = holder(book, low, x, i);
         let l = level_at(reg, h, x);
         low = lower(low, h, l, x, i);
         i += 1;

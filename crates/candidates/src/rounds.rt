@@ -7,10 +7,11 @@ ghost use lib.ListN.{length};
 ghost use Rattle.laws.specs.Counting.{one};
 ghost use Rattle.limits.specs.Limits.{frameSlots, slotTimes, widest, mostTimeOut};
 ghost use Rattle.candidates.specs.Rounds.{keyOf, betterOf};
-ghost use Rattle.candidates.specs.Scanning.{noneYet, keyHits, reusedBy, candidateBy};
+ghost use Rattle.candidates.specs.Scanning.{noneYet, boundOf, keyHits, reusedBy, candidateBy};
 use crate::Window;
 use crate::slot::free_bit;
 use crate::slot::smaller;
+use distance::HELD_OFF;
 use distance::TOP;
 
 // The four greatest keys, 0 where there are fewer.
@@ -45,6 +46,17 @@ fn key(w: u64, i: usize) -> u64
         return w * 512 + (511 - i as u64);
     }
     0
+}
+
+// Up to this level a slot is none of the best: it is barred, or nearer than the fourth.
+pub fn bound(b: Best) -> u64
+    ensures { λ r. ⌜ r ≡ boundOf b ⌝ }
+{
+    let w = b.fourth / 512;
+    if w == 0 {
+        return HELD_OFF;
+    }
+    HELD_OFF + (w - 1)
 }
 
 fn larger(a: u64, b: u64) -> u64

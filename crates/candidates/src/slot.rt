@@ -1,13 +1,13 @@
 // A slot with its later frames: what the book alone tells of it, the holders that are to be looked up, and what is asked of each of these. Promise: as
 // specs/Scanning.antt says.
 ghost use mathlib.Core.Path.{_≡_};
-ghost use Prim.Native.Nat.{_+_, _%_, _≤_, _<_, min};
+ghost use Prim.Native.Nat.{_+_, _*_, _%_, _≤_, _<_, min};
 ghost use lib.ListN.{length};
 ghost use Rattle.laws.specs.Counting.{one};
 ghost use Rattle.limits.specs.Limits.{frameSlots, slotTimes, widest, mostTimeOut};
 ghost use Rattle.distance.specs.Distance.{top};
-ghost use Rattle.candidates.specs.Slot.{frame, earlier};
-ghost use Rattle.candidates.specs.Scanning.{worthBy, isNew, gathered, slotOf, freeAt, freeIn, freeUptoFour, recordOf, levelBy, holderIn};
+ghost use Rattle.candidates.specs.Slot.{earlier};
+ghost use Rattle.candidates.specs.Scanning.{worthBy, slotOf, freeAt, freeIn, freeUptoFour, recordOf, levelBy, heldIn, holderIn};
 use crate::Window;
 use book::NONE;
 use book::OWN;
@@ -17,24 +17,16 @@ use distance::HELD_OFF;
 use distance::TOP;
 use distance::level;
 use limits::FRAME;
-use limits::MOST_TIME_OUT;
 use limits::SLOT_TIMES;
 use ship::Ship;
 use ship::Station;
 
-// The times of a slot at the most.
-const TIMES: usize = MOST_TIME_OUT + 1;
-
-// Holders, and how many of them count.
-pub struct Held {
-    pub holders: [u16; TIMES],
-    pub times: usize,
-}
-
-// A slot: the holders to be looked at, how many they are, whether the slot a frame earlier is own; and our ship.
+// A slot: its place in the book, how many of its times are to be looked at, up to which level it is none of the best, whether the slot a frame earlier
+// is own; and our ship.
 pub struct Slot {
-    pub holders: [u16; TIMES],
+    pub from: usize,
     pub times: usize,
+    pub bound: u64,
     pub earlier: bool,
     pub ship: Ship,
 }
@@ -118,60 +110,26 @@ pub fn free_upto_four(book: &[u16], w: Window) -> usize
     n
 }
 
-// 1 where the holder h is to be looked at, the frame before being held by `last`: a holder that stays is looked at once.
-fn new_bit(h: u16, last: u16) -> usize
-    ensures { λ r. ⌜ r ≡ one (isNew h last) ⌝ }
-{
-    if h == NONE {
-        return 0;
-    }
-    if h == last {
-        return 0;
-    }
-    1
-}
-
-// The holders of a slot that are to be looked at.
-fn gather(book: &[u16], present: usize, at: usize, m: usize) -> Held
-    requires { ⌜ (length (now book) ≡ slotTimes) × ((at < (frameSlots + widest)) × (m < mostTimeOut + 1)) ⌝ }
-    ensures { λ r. ⌜ r ≡ gathered (frame (now (book .entry)) present at) (m + 1) ⌝ }
-{
-    let mut holders = [NONE; TIMES];
-    let mut times: usize = 0;
-    let mut last = NONE;
-    let mut p = place(present, at);
-    let mut i: usize = 0;
-    while i <= m {
-        let h = book[p];
-        holders[times] = h;
-        times += new_bit(h, last);
-        last = h;
-        p = frame_on(p);
-        i += 1;
-    }
-    Held { holders, times }
-}
-
-// The slot i of the window: nothing is to be looked at where the slot a frame earlier is own.
-pub fn slot_of(book: &[u16], w: Window, ship: Ship, i: usize) -> Slot
+// The slot i of the window, where only a level above the bound matters: nothing is to be looked at where the slot a frame earlier is own.
+pub fn slot_of(book: &[u16], w: Window, ship: Ship, bound: u64, i: usize) -> Slot
     requires { ⌜ (length (now book) ≡ slotTimes) × ((w .first ≤ frameSlots) × ((w .timeout < mostTimeOut + 1) × (i < widest))) ⌝ }
-    ensures { λ r. ⌜ r ≡ slotOf (now (book .entry)) w ship i ⌝ }
+    ensures { λ r. ⌜ r ≡ slotOf (now (book .entry)) w ship bound i ⌝ }
 {
     let at = w.first + i;
+    let from = place(w.present, at);
     if own_earlier(book, w.present, at) {
-        let holders = [NONE; TIMES];
         return Slot {
-            holders,
+            from,
             times: 0,
+            bound,
             earlier: true,
             ship,
         };
     }
-    let g = gather(book, w.present, at, w.timeout);
-    let holders = g.holders;
     Slot {
-        holders,
-        times: g.times,
+        from,
+        times: w.timeout + 1,
+        bound,
         earlier: false,
         ship,
     }
@@ -224,13 +182,43 @@ pub fn times(x: Slot) -> usize
     x.times
 }
 
-// The holder i.
-pub fn holder(book: &[u16], x: Slot, i: usize) -> u16
-    requires { ⌜ i < 8 ⌝ }
-    ensures { λ r. ⌜ r ≡ holderIn x i ⌝ }
+// The place i frames after this one, counted round the list.
+fn frames_on(p: usize, i: usize) -> usize
+    requires { ⌜ (p < slotTimes) × (i < 8) ⌝ }
+    ensures { λ r. ⌜ r ≡ (p + frameSlots * i) % slotTimes ⌝ }
 {
-    let holders = x.holders;
-    holders[i]
+    let q = p + FRAME * i;
+    if q < SLOT_TIMES {
+        return q;
+    }
+    q - SLOT_TIMES
+}
+
+// The holder of the slot's time i.
+fn held_in(book: &[u16], x: Slot, i: usize) -> u16
+    requires { ⌜ (length (now book) ≡ slotTimes) × ((x .from < slotTimes) × (i < 8)) ⌝ }
+    ensures { λ r. ⌜ r ≡ heldIn (now (book .entry)) x i ⌝ }
+{
+    let p = frames_on(x.from, i);
+    book[p]
+}
+
+// The holder of the time i, if it is to be looked at: not where the slot is low enough already, nor where the frame before has the same holder.
+pub fn holder(book: &[u16], low: u64, x: Slot, i: usize) -> u16
+    requires { ⌜ (length (now book) ≡ slotTimes) × ((x .from < slotTimes) × (i < 8)) ⌝ }
+    ensures { λ r. ⌜ r ≡ holderIn (now (book .entry)) x low i ⌝ }
+{
+    if low <= x.bound {
+        return NONE;
+    }
+    let h = held_in(book, x, i);
+    if i == 0 {
+        return h;
+    }
+    if h == held_in(book, x, i - 1) {
+        return NONE;
+    }
+    h
 }
 
 // With one holder more, of this level.

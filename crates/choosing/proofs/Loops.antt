@@ -14,10 +14,10 @@ use Rattle.walks.specs.Folded.{folded}
 use Rattle.walks.proofs.Folding.{Meaning, Enough}
 use Rattle.distance.specs.Distance.{weKnown}
 use Rattle.candidates.specs.Rounds.{betterOf}
-use Rattle.candidates.specs.Scanning.{worthBy, slotOf, slotLevel, noneYet}
+use Rattle.candidates.specs.Scanning.{worthBy, slotOf, slotLevel, noneYet, boundOf}
 use Rattle.candidates.proofs.Data.{SlotD, LevelD, BestD}
 use Rattle.candidates.proofs.Loops.{SlotNeeds}
-use Rattle.candidates.proofs.Sameness.{slot-times}
+use Rattle.candidates.proofs.Sameness.{slot-times, slot-from}
 use Rattle.choosing.specs.declared.Query.{Query}
 use Rattle.choosing.specs.Scanning.{turnsOf, scanned}
 use Rattle.choosing.proofs.Data.{QueryD}
@@ -30,12 +30,12 @@ abbrev pub ofWindow : Meaning QueryD SlotD LevelD BestD
 ofWindow = record {
   start = λ q. noneYet;
   turns = turnsOf;
-  a = λ bs q i. slotOf bs (q .window) (q .watch .ship) i;
-  b = λ ys bs q x. slotLevel ys x;
+  a = λ bs q b i. slotOf bs (q .window) (q .watch .ship) (boundOf b) i;
+  b = λ ys bs q x. slotLevel ys bs x;
   c = λ q b x low i. betterOf b (worthBy (x .earlier) low) i;
   gives = scanned;
   Need = ScanNeeds;
-  NeedA = λ bs q i. (length bs ≡ slotTimes) × ((q .window .first ≤ frameSlots) × ((q .window .timeout < mostTimeOut + 1) × (i < widest)));
+  NeedA = λ bs q b i. (length bs ≡ slotTimes) × ((q .window .first ≤ frameSlots) × ((q .window .timeout < mostTimeOut + 1) × (i < widest)));
   NeedB = λ ys bs q x. SlotNeeds ys bs x;
   NeedC = λ q b x low i. i < widest;
 }
@@ -49,14 +49,18 @@ turns-few q =
     (pick-has (λ (n : ℕ). n ≤ q .window .width) (weKnown (q .watch .ship)) (q .window .width) 0 (omega arith) (omega arith)))
 
 window-comes : (ys : List Station) (bs : List ℕ) (q : Query)
-    → folded noneYet (slotOf bs (q .window) (q .watch .ship)) (slotLevel ys) (λ b x low i. betterOf b (worthBy (x .earlier) low) i) (turnsOf q) ≡ scanned ys bs q
+    → folded noneYet (λ b. slotOf bs (q .window) (q .watch .ship) (boundOf b)) (slotLevel ys bs) (λ b x low i. betterOf b (worthBy (x .earlier) low) i) (turnsOf q)
+    ≡ scanned ys bs q
 unfolding scanned
 window-comes ys bs q = refl
 
 pub window-enough : Enough ofWindow
 window-enough = record {
   for-a = λ ys bs q i n l. let m = n (omega arith) in (m .1 .0, (m .1 .1 .0, (m .1 .1 .1 .0, omega (arith, l, turns-few q, m .1 .1 .1 .1))));
-  for-b = λ ys bs q i n l. let m = n (omega arith) in (m .0, slot-times bs (q .window) (q .watch .ship) i (m .1 .1 .1 .0));
+  for-b = λ ys bs q i n l. let m = n (omega arith) in (
+    m .0,
+    (m .1 .0, (slot-from bs (q .window) (q .watch .ship) _ i, slot-times bs (q .window) (q .watch .ship) _ i (m .1 .1 .1 .0))),
+  );
   for-c = λ ys bs q i n l. let m = n (omega arith) in omega (arith, l, turns-few q, m .1 .1 .1 .1);
   comes-to = λ ys bs q n. window-comes ys bs q;
 }

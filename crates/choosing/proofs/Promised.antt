@@ -63,7 +63,7 @@ module _ (reg : List Station) (slots : List ℕ) (w : Watch) (a : Wanted) (m : a
   unfolding asked
   watch-is = refl
 
-  scanned-is : scanned reg slots q ≡ bestAfter v x timed (turnsOf q)
+  scanned-is : scanned reg slots q ≡ bestAfter v x (turnsOf q)
   unfolding scanned asked
   scanned-is = refl
 
@@ -86,18 +86,18 @@ module _ (reg : List Station) (slots : List ℕ) (w : Watch) (a : Wanted) (m : a
       where
         known : weKnown (w .ship) ≡ true → BestIn (worthIn v x) (x .width) (scanned reg slots q)
         known k =
-            subst (BestIn (worthIn v x) (x .width)) (sym (scanned-is ∙ ap (bestAfter v x timed) (sym turns))) (best-of v x timed k (x .width) (omega (arith, fits)))
+            subst (BestIn (worthIn v x) (x .width)) (sym (scanned-is ∙ ap (bestAfter v x) (sym turns))) (best-of v x k (x .width) (omega (arith, fits)))
           where
             turns : x .width ≡ turnsOf q
             turns = ap (λ (y : Window). y .width) (sym window-is) ∙ turns-all q (taken-is ∙ t) (omega (arith, free-is, l)) (ap (λ (y : Watch). weKnown (y .ship)) watch-is ∙ k)
 
         lost : weKnown (w .ship) ≡ false → BestIn (worthIn v x) (x .width) (scanned reg slots q)
-        lost k = subst (BestIn (worthIn v x) (x .width)) (sym (scanned-is ∙ ap (bestAfter v x timed) (sym turns) ∙ none)) (lost-best v x k (x .width) (omega (arith, fits)))
+        lost k = subst (BestIn (worthIn v x) (x .width)) (sym (scanned-is ∙ ap (bestAfter v x) (sym turns) ∙ none)) (lost-best v x k (x .width) (omega (arith, fits)))
           where
             turns : 0 ≡ turnsOf q
             turns = turns-lost q (taken-is ∙ t) (omega (arith, free-is, l)) (ap (λ (y : Watch). weKnown (y .ship)) watch-is ∙ k)
 
-            none : bestAfter v x timed 0 ≡ noneYet
+            none : bestAfter v x 0 ≡ noneYet
             none = sym (folded-none _ _ _ _)
 
     found : judged slots q (scanned reg slots q) ≡ choice v x (a .draw)

@@ -12,7 +12,7 @@ use Rattle.candidates.specs.declared.Picked.{Picked}
 use Rattle.candidates.specs.declared.Picked.the-variants.{Taken}
 use Rattle.candidates.specs.declared.rounds.Best.{Best}
 use Rattle.candidates.specs.Rounds.{betterOf}
-use Rattle.candidates.specs.Scanning.{worthBy, slotOf, freeUptoFour, slotLevel, noneYet, drawn}
+use Rattle.candidates.specs.Scanning.{worthBy, slotOf, freeUptoFour, slotLevel, noneYet, boundOf, drawn}
 use Rattle.choosing.specs.declared.Wanted.{Wanted}
 use Rattle.choosing.specs.declared.Query.{Query}
 use Rattle.choosing.specs.Choosing.{windowOf, anyOwn}
@@ -35,7 +35,7 @@ turnsOf q = pick (q .taken) 0 (pick (ltb 3 (q .free)) 0 (pick (weKnown (q .watch
 -- the best keys after these
 unfoldable pub scanned : List Station → List ℕ → Query → Best
 scanned reg slots q =
-    folded noneYet (slotOf slots (q .window) (q .watch .ship)) (slotLevel reg) (λ b x low i. betterOf b (worthBy (x .earlier) low) i) (turnsOf q)
+    folded noneYet (λ b. slotOf slots (q .window) (q .watch .ship) (boundOf b)) (slotLevel reg slots) (λ b x low i. betterOf b (worthBy (x .earlier) low) i) (turnsOf q)
 
 -- the slot that is picked
 unfoldable pub judged : List ℕ → Query → Best → Picked

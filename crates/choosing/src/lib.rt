@@ -80,7 +80,7 @@ pub fn scan(reg: &[Station], book: &[u16], q: Query) -> Best
     let n = turns(q);
     let mut i: usize = 0;
     while i < n {
-        let x = slot_in(book, q, i);
+        let x = slot_in(book, best, q, i);
         let low = slot_level(reg, book, x);
         best = with_slot(best, x, low, q, i);
         i += 1;

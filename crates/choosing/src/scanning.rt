@@ -4,11 +4,12 @@ ghost use Prim.Native.Nat.{_+_, _≤_, _<_};
 ghost use lib.ListN.{length};
 ghost use Rattle.limits.specs.Limits.{frameSlots, slotTimes, widest, mostTimeOut};
 ghost use Rattle.candidates.specs.Rounds.{betterOf};
-ghost use Rattle.candidates.specs.Scanning.{worthBy, slotOf, noneYet};
+ghost use Rattle.candidates.specs.Scanning.{worthBy, slotOf, noneYet, boundOf};
 ghost use Rattle.choosing.specs.Scanning.{turnsOf};
 use crate::Query;
 use candidates::rounds::Best;
 use candidates::rounds::better;
+use candidates::rounds::bound;
 use candidates::rounds::none_yet;
 use candidates::slot::Slot;
 use candidates::slot::slot_of;
@@ -41,15 +42,15 @@ pub fn turns(q: Query) -> usize
     window.width
 }
 
-// The slot i of the window.
-pub fn slot_in(book: &[u16], q: Query, i: usize) -> Slot
+// The slot i of the window, the best so far being b.
+pub fn slot_in(book: &[u16], b: Best, q: Query, i: usize) -> Slot
     requires { ⌜ (length (now book) ≡ slotTimes) × ((q .window .first ≤ frameSlots) × ((q .window .timeout < mostTimeOut + 1) × (i < widest))) ⌝ }
-    ensures { λ r. ⌜ r ≡ slotOf (now (book .entry)) (q .window) (q .watch .ship) i ⌝ }
+    ensures { λ r. ⌜ r ≡ slotOf (now (book .entry)) (q .window) (q .watch .ship) (boundOf b) i ⌝ }
 {
     let window = q.window;
     let watch = q.watch;
     let ship = watch.ship;
-    slot_of(book, window, ship, i)
+    slot_of(book, window, ship, bound(b), i)
 }
 
 // With the slot x more, whose lowest level this is.

@@ -52,12 +52,12 @@ use Rattle.walks.proofs.FoldingCode.{regTy, bookTy, at-end, turn, funct
 pub record Meaning (Q X Y S : Datum) : Type 2 where
   pub start : Q .D → S .D
   pub turns : Q .D → ℕ
-  pub a : List ℕ → Q .D → ℕ → X .D
+  pub a : List ℕ → Q .D → S .D → ℕ → X .D
   pub b : List Station → List ℕ → Q .D → X .D → Y .D
   pub c : Q .D → S .D → X .D → Y .D → ℕ → S .D
   pub gives : List Station → List ℕ → Q .D → S .D
   pub Need : List Station → List ℕ → Q .D → Type 0
-  pub NeedA : List ℕ → Q .D → ℕ → Type 0
+  pub NeedA : List ℕ → Q .D → S .D → ℕ → Type 0
   pub NeedB : List Station → List ℕ → Q .D → X .D → Type 0
   pub NeedC : Q .D → S .D → X .D → Y .D → ℕ → Type 0
 
@@ -68,10 +68,11 @@ module _ {Q X Y S : Datum} (m : Meaning Q X Y S) where
 
   -- f's need gives those of its callees, and after the last turn there is what f gives
   pub record Enough : Type 0 where
-    pub for-a : (ys : List Station) (bs : List ℕ) (k : Q .D) (i : ℕ) → m .Need ys bs k → i < m .turns k → m .NeedA bs k i
-    pub for-b : (ys : List Station) (bs : List ℕ) (k : Q .D) (i : ℕ) → m .Need ys bs k → i < m .turns k → m .NeedB ys bs k (m .a bs k i)
+    pub for-a : (ys : List Station) (bs : List ℕ) (k : Q .D) (i : ℕ) → m .Need ys bs k → i < m .turns k → m .NeedA bs k (after ys bs k i) i
+    pub for-b : (ys : List Station) (bs : List ℕ) (k : Q .D) (i : ℕ) → m .Need ys bs k → i < m .turns k
+        → m .NeedB ys bs k (m .a bs k (after ys bs k i) i)
     pub for-c : (ys : List Station) (bs : List ℕ) (k : Q .D) (i : ℕ) → m .Need ys bs k → i < m .turns k
-        → m .NeedC k (after ys bs k i) (m .a bs k i) (m .b ys bs k (m .a bs k i)) i
+        → m .NeedC k (after ys bs k i) (m .a bs k (after ys bs k i) i) (m .b ys bs k (m .a bs k (after ys bs k i) i)) i
     pub comes-to : (ys : List Station) (bs : List ℕ) (k : Q .D) → m .Need ys bs k → after ys bs k (m .turns k) ≡ m .gives ys bs k
 
 module _ (Q X Y S : Datum) (m : Meaning Q X Y S) {M : Type 1} (𝓤 : URA M) (H : Heap 𝓤) (A : Atoms 𝓤) where
@@ -89,7 +90,8 @@ module _ (Q X Y S : Datum) (m : Meaning Q X Y S) {M : Type 1} (𝓤 : URA M) (H 
   TheTurns = The 𝓤 H A 0 (startSlots Q X Y S) (number w64) (λ κs a. emp 𝓤) (λ κs a. m .turns (a .0))
 
   abbrev pub TheA : Contract 𝓤
-  TheA = The 𝓤 H A 1 (aSlots Q X Y S) X (λ κs a. fact 𝓤 (m .NeedA (now (a .0)) (a .1 .0) (a .1 .1 .0))) (λ κs a. m .a (now (a .0)) (a .1 .0) (a .1 .1 .0))
+  TheA = The 𝓤 H A 1 (aSlots Q X Y S) X (λ κs a. fact 𝓤 (m .NeedA (now (a .0)) (a .1 .1 .0) (a .1 .0) (a .1 .1 .1 .0)))
+      (λ κs a. m .a (now (a .0)) (a .1 .1 .0) (a .1 .0) (a .1 .1 .1 .0))
 
   abbrev pub TheC : Contract 𝓤
   TheC = The 𝓤 H A 0 (cSlots Q X Y S) S (λ κs a. fact 𝓤 (m .NeedC (a .1 .1 .1 .0) (a .0) (a .1 .0) (a .1 .1 .0) (a .1 .1 .1 .1 .0)))
@@ -201,21 +203,22 @@ module _ (Q X Y S : Datum) (m : Meaning Q X Y S) {M : Type 1} (𝓤 : URA M) (H 
         turn-at j true e =
             assigns ! (bin ! (load ! (from ! (stop !)) (look ! 10 refl)) (load ! (from ! (stop !)) (look ! 12 refl)) tt) (from ! (stop !)) (init ! 4 refl (tt, tt)) $
             rewrite ! 4 (λ (t : Bool). ‵ (fat fullShare tyBool l₉ 0 (vbool t))) e refl $ stays ! (load ! (from ! (stop !)) (look ! 4 refl)) $
-            -- x = a(book, q, i)
+            -- x = a(book, s, q, i)
             move ! (2 ∷ []) $ use1 W (‵ Book ⊛ ‵ Book) (shr-slice-copy 𝓤 H A W (named 1) κ₁ u16 .twice (a .1 .0) (v₁ ∷ [])) $ split ! $
             nothing ! $ owned ! usize (Is usize) (uint-makes 𝓤 H A W w64) (j .i) (vint w64 (j .i) ∷ []) (refl, fits) $ fjoin ! $
-            owned ! (row Q) (Is (row Q)) (QL .make 𝓤 H A W) k (QL .val k ∷ []) gk $ fjoin ! $ move ! (1 ∷ 0 ∷ []) $ fjoin ! $
+            owned ! (row Q) (Is (row Q)) (QL .make 𝓤 H A W) k (QL .val k ∷ []) gk $ fjoin ! $
+            owned ! (row S) (Is (row S)) (SL .make 𝓤 H A W) (j .s) (j .w ∷ []) (j .is) $ fjoin ! $ move ! (1 ∷ 0 ∷ []) $ fjoin ! $
             -- [what a is handed; the book; the register; its token; the book's; …]
             nothing ! $ move ! (5 ∷ 0 ∷ []) $ join ! $ use1 W (raw (toks 𝓤 A 1 (κ₁, tt) (q₁, tt))) (id⊢ 𝓤 _) $
-            asks 𝓤 H A 1 (aSlots Q X Y S) X (λ κs b. fact 𝓤 (m .NeedA (now (b .0)) (b .1 .0) (b .1 .1 .0))) (λ κs b. m .a (now (b .0)) (b .1 .0) (b .1 .1 .0)) W
-            (κ₁, tt) (q₁, tt) (a .1 .0, (k, (j .i, tt))) (v₁ ∷ [], (QL .val k ∷ [], (vint w64 (j .i) ∷ [], tt))) fm k-a
-            (factI 𝓤 (m .NeedA bs k (j .i)) (emp 𝓤) (enough .for-a ys bs k (j .i) need l))
-            (and-then ! (load ! (from ! (stop !)) (look ! 18 refl)) (and-then ! (load ! (from ! (stop !)) (look ! 16 refl))
-            (and-then ! (load ! (from ! (stop !)) (look ! 10 refl)) (no-more !)))) (λ x u ex gx.
+            asks 𝓤 H A 1 (aSlots Q X Y S) X (λ κs b. fact 𝓤 (m .NeedA (now (b .0)) (b .1 .1 .0) (b .1 .0) (b .1 .1 .1 .0)))
+            (λ κs b. m .a (now (b .0)) (b .1 .1 .0) (b .1 .0) (b .1 .1 .1 .0)) W (κ₁, tt) (q₁, tt) (a .1 .0, (j .s, (k, (j .i, tt))))
+            (v₁ ∷ [], (j .w ∷ [], (QL .val k ∷ [], (vint w64 (j .i) ∷ [], tt)))) fm k-a (factI 𝓤 (m .NeedA bs k (j .s) (j .i)) (emp 𝓤) for-a)
+            (and-then ! (load ! (from ! (stop !)) (look ! 18 refl)) (and-then ! (load ! (from ! (stop !)) (look ! 14 refl))
+            (and-then ! (load ! (from ! (stop !)) (look ! 16 refl)) (and-then ! (load ! (from ! (stop !)) (look ! 10 refl)) (no-more !))))) (λ x u ex gx.
             use1 W (‵ (flft κ₁ q₁) ⊛ ‵ ftrue) (id⊢ 𝓤 _) $ split ! $ move ! (1 ∷ []) $ drop ! $ move ! (2 ∷ 3 ∷ 1 ∷ 0 ∷ []) $
             land ! (from ! (stop !)) (init ! 8 refl (XL .law 𝓤 H A W .typed x _ gx .0)) $
             -- y = b(..)
-            looking .looks κ q (a .0) κ₁ q₁ (a .1 .0) k gk x u gx (subst (λ (t : X .D). m .NeedB ys bs k t) (sym ex) (enough .for-b ys bs k (j .i) need l))
+            looking .looks κ q (a .0) κ₁ q₁ (a .1 .0) k gk x u gx (for-b x ex)
             (record {
               reg = λ i₀ i₁ i₂ i₃. load ! (from ! (stop !)) (look ! 20 refl);
               book = λ i₀ i₁ i₂ i₃. load ! (from ! (stop !)) (look ! 18 refl);
@@ -253,13 +256,22 @@ module _ (Q X Y S : Datum) (m : Meaning Q X Y S) {M : Type 1} (𝓤 : URA M) (H 
             next-fits : j .i + 1 < 2 ^ 64
             next-fits = lt-of-le-of-lt (add-one-le l) gt
 
-            for-c : (x : X .D) (y : Y .D) → x ≡ m .a bs k (j .i) → y ≡ m .b ys bs k x → m .NeedC k (j .s) x y (j .i)
-            for-c x y ex ey =
-                subst (λ (t : S .D). m .NeedC k t x y (j .i)) (sym (j .done-so-far)) (
-                subst (λ (t : Y .D). m .NeedC k (after m ys bs k (j .i)) x t (j .i)) (sym ey) (
-                subst (λ (t : X .D). m .NeedC k (after m ys bs k (j .i)) t (m .b ys bs k t) (j .i)) (sym ex) (enough .for-c ys bs k (j .i) need l)))
+            for-a : m .NeedA bs k (j .s) (j .i)
+            for-a = subst (λ (s : S .D). m .NeedA bs k s (j .i)) (sym (j .done-so-far)) (enough .for-a ys bs k (j .i) need l)
 
-            next : (x : X .D) (y : Y .D) (s : S .D) → x ≡ m .a bs k (j .i) → y ≡ m .b ys bs k x → s ≡ m .c k (j .s) x y (j .i) → s ≡ after m ys bs k (j .i + 1)
+            for-b : (x : X .D) → x ≡ m .a bs k (j .s) (j .i) → m .NeedB ys bs k x
+            for-b x ex =
+                subst (λ (t : X .D). m .NeedB ys bs k t) (sym ex)
+                (subst (λ (s : S .D). m .NeedB ys bs k (m .a bs k s (j .i))) (sym (j .done-so-far)) (enough .for-b ys bs k (j .i) need l))
+
+            for-c : (x : X .D) (y : Y .D) → x ≡ m .a bs k (j .s) (j .i) → y ≡ m .b ys bs k x → m .NeedC k (j .s) x y (j .i)
+            for-c x y ex ey =
+                subst (λ (t : Y .D). m .NeedC k (j .s) x t (j .i)) (sym ey)
+                (subst (λ (t : X .D). m .NeedC k (j .s) t (m .b ys bs k t) (j .i)) (sym ex)
+                (subst (λ (s : S .D). m .NeedC k s (m .a bs k s (j .i)) (m .b ys bs k (m .a bs k s (j .i))) (j .i)) (sym (j .done-so-far))
+                (enough .for-c ys bs k (j .i) need l)))
+
+            next : (x : X .D) (y : Y .D) (s : S .D) → x ≡ m .a bs k (j .s) (j .i) → y ≡ m .b ys bs k x → s ≡ m .c k (j .s) x y (j .i) → s ≡ after m ys bs k (j .i + 1)
             next x y s ex ey es = folded-more (m .start k) (m .a bs k) (m .b ys bs k) (m .c k) (j .i) (j .s) s x y (j .done-so-far) ex ey es
         turn-at j false e =
             assigns ! (bin ! (load ! (from ! (stop !)) (look ! 10 refl)) (load ! (from ! (stop !)) (look ! 12 refl)) tt) (from ! (stop !)) (init ! 4 refl (tt, tt)) $

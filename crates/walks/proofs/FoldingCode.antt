@@ -1,7 +1,7 @@
 -- A loop over a lent register and a lent book, at any plain Q, X, Y and S, any covered start, turns, a and c, and any b that looks into the register:
 --     fn f(reg: &[Station], book: &[u16], q: Q) -> S {
 --         let mut s = start(q); let n = turns(q); let mut i: usize = 0;
---         while i < n { let x = a(book, q, i); let y = b(..); s = c(s, x, y, q, i); i += 1; }
+--         while i < n { let x = a(book, s, q, i); let y = b(..); s = c(s, x, y, q, i); i += 1; }
 --         s
 --     }
 -- b(..) is handed some of reg, book, q and x: the operands ops.
@@ -35,7 +35,7 @@ at-end = seq (assign (place 0 []) (rvOpd (copy (place 4 [])))) return
 abbrev pub turn : Name → Name → Name → List Operand → MBody
 turn #a #b #c ops = seq (assign (place 9 []) (op2 (lt unsigned) (copy (place 6 [])) (copy (place 5 []))))
     (seq (cond (copy (place 9 [])) skip (exit 1))
-    (seq (call #a (copy (place 2 []) ∷ copy (place 3 []) ∷ copy (place 6 []) ∷ []) (place 7 []))
+    (seq (call #a (copy (place 2 []) ∷ copy (place 4 []) ∷ copy (place 3 []) ∷ copy (place 6 []) ∷ []) (place 7 []))
     (seq (call #b ops (place 8 []))
     (seq (call #c (copy (place 4 []) ∷ copy (place 7 []) ∷ copy (place 8 []) ∷ copy (place 3 []) ∷ copy (place 6 []) ∷ []) (place 4 []))
     (assign (place 6 []) (op2 (add unsigned) (copy (place 6 [])) (int w64 1)))))))
@@ -80,7 +80,7 @@ module _ (Q X Y S : Datum) where
   startSlots = plain (λ _. row Q) ∷ []
 
   abbrev pub aSlots : List (Slot 1)
-  aSlots = shrSliceOf (0 ∷ []) tt (plain (λ _. u16)) ∷ plain (λ _. row Q) ∷ plain (λ _. usize) ∷ []
+  aSlots = shrSliceOf (0 ∷ []) tt (plain (λ _. u16)) ∷ plain (λ _. row S) ∷ plain (λ _. row Q) ∷ plain (λ _. usize) ∷ []
 
   abbrev pub cSlots : List (Slot 0)
   cSlots = plain (λ _. row S) ∷ plain (λ _. row X) ∷ plain (λ _. row Y) ∷ plain (λ _. row Q) ∷ plain (λ _. usize) ∷ []

@@ -2,19 +2,19 @@
 use mathlib.Core.Path.{_≡_, refl, sym, ap, _∙_}
 use Prim.Native.Nat.{ℕ, suc, _+_}
 use native.Mathlib.Numerals.{add-one}
-use Rattle.walks.specs.Folded.{folded}
+use Rattle.walks.specs.Folded.{foldedOnce, folded}
 
-module _ {S X Y : Type 0} (s₀ : S) (a : ℕ → X) (b : X → Y) (c : S → X → Y → ℕ → S) where
+module _ {S X Y : Type 0} (s₀ : S) (a : S → ℕ → X) (b : X → Y) (c : S → X → Y → ℕ → S) where
   pub folded-none : s₀ ≡ folded s₀ a b c 0
   unfolding folded
   folded-none = refl
 
-  pub folded-suc : (i : ℕ) → c (folded s₀ a b c i) (a i) (b (a i)) i ≡ folded s₀ a b c (suc i)
+  pub folded-suc : (i : ℕ) → foldedOnce a b c i (folded s₀ a b c i) ≡ folded s₀ a b c (suc i)
   unfolding folded
   folded-suc i = refl
 
   -- as the code has it: what each callee gave
-  pub folded-more : (i : ℕ) (s s′ : S) (x : X) (y : Y) → s ≡ folded s₀ a b c i → x ≡ a i → y ≡ b x → s′ ≡ c s x y i → s′ ≡ folded s₀ a b c (i + 1)
+  pub folded-more : (i : ℕ) (s s′ : S) (x : X) (y : Y) → s ≡ folded s₀ a b c i → x ≡ a s i → y ≡ b x → s′ ≡ c s x y i → s′ ≡ folded s₀ a b c (i + 1)
   folded-more i s s′ x y es ex ey e =
-      e ∙ ap (λ (t : S). c t x y i) es ∙ ap (λ (z : Y). c (folded s₀ a b c i) x z i) ey ∙ ap (λ (t : X). c (folded s₀ a b c i) t (b t) i) ex ∙ folded-suc i
+      e ∙ ap (λ (z : Y). c s x z i) ey ∙ ap (λ (t : X). c s t (b t) i) ex ∙ ap (foldedOnce a b c i) es ∙ folded-suc i
       ∙ ap (folded s₀ a b c) (sym (add-one i))

@@ -38,8 +38,9 @@ cast-at c =
 
 add-t14 : tie.Need-add-t14
 add-t14 c =
-    let l = c .before .before .before .before .list-candidates in
-    let d = c .before .before .before .before .before .before .before .args .d in
+    let listed = c .before .before .before .before in
+    let l = listed .list-candidates in
+    let d = listed .before .before .before .args .d in
     let s = chosen-small _ _ _ _ (omega (arith, l .ensures .0, c .before .before .before .cs2 .given)) (l .ensures .1) 0 d (c .before .before .if1 .left) in
     omega arith
 

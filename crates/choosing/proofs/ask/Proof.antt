@@ -18,8 +18,9 @@ returns c = asked-taken _ _ _ _ (c .before .before .before .meant .ensures) (sym
 
 free-upto-four-requires : tie.Need-free-upto-four-requires
 free-upto-four-requires c κs =
-    let e = c .before .before .before .meant .ensures in
-    let p = c .before .before .before .before .before .before .before .pre in
+    let meant = c .before .before .before in
+    let e = meant .meant .ensures in
+    let p = meant .before .before .before .before .pre in
     (p .0, (near _ _ _ _ _ e, (omega (arith, timed _ _ _ _ _ e, p .1 .1 .1), narrow _ _ _ _ _ e)))
 
 returns-2 : tie.Need-returns-2

@@ -47,7 +47,7 @@ scan-spec 𝓤 H 𝓜 𝓖 𝓡 =
     turns-def.name turns-def.routine code.calls-choosing·scanning·turns (turns-thm.met 𝓤 H 𝓜 𝓖 𝓡))
     (cited 𝓤 H (tripleOf 𝓤 H (𝓖 .A) a.signature (a.spec 𝓤 H (𝓖 .A) (𝓜 .mem) (𝓡 .run))) 𝓜 𝓡 code.env
     a-def.name a-def.routine code.calls-choosing·scanning·slot-in (a-thm.met 𝓤 H 𝓜 𝓖 𝓡))
-    (by-book-x QueryD SlotD LevelD QueryL SlotL (λ ys bs x. slotLevel ys x) SlotNeeds 𝓤 H (𝓖 .A) W (fmOf 𝓤 H (W .laws) 𝓣)
+    (by-book-x QueryD SlotD LevelD QueryL SlotL slotLevel SlotNeeds 𝓤 H (𝓖 .A) W (fmOf 𝓤 H (W .laws) 𝓣)
     (cited 𝓤 H (tripleOf 𝓤 H (𝓖 .A) b.signature (b.spec 𝓤 H (𝓖 .A) (𝓜 .mem) (𝓡 .run))) 𝓜 𝓡 code.env
     b-def.name b-def.routine code.calls-candidates·slot-level (b-thm.met 𝓤 H 𝓜 𝓖 𝓡)))
     (cited 𝓤 H (tripleOf 𝓤 H (𝓖 .A) c.signature (c.spec 𝓤 H (𝓖 .A) (𝓜 .mem) (𝓡 .run))) 𝓜 𝓡 code.env

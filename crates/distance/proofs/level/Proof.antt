@@ -29,8 +29,16 @@ add-result : tie.Need-add-result
 add-result c =
     let u = c .before .struct-told6 .given in
     let t = c .before .before .before .struct-told4 .given in
-    let a = c .before .before .before .before .before .before .before .before .before .before .before .before .args in
-    record { fits = omega (arith, distance-fits (a .ship .latitude) (a .ship .longitude) (a .s .latitude) (a .s .longitude) _ (t .1 .0 .1) (t .1 .1 .0 .1) (u .1 .1 .0 .1) (u .1 .1 .1 .0 .1) (c .distance .ensures)) }
+    let free = c .before .before .before .before .before in
+    let seen = free .before .before in
+    let a = seen .before .before .before .before .before .args in
+    record {
+      fits = omega (
+        arith,
+        distance-fits (a .ship .latitude) (a .ship .longitude) (a .s .latitude) (a .s .longitude) _
+            (t .1 .0 .1) (t .1 .1 .0 .1) (u .1 .1 .0 .1) (u .1 .1 .1 .0 .1) (c .distance .ensures),
+      );
+    }
 
 returns-4 : tie.Need-returns-4
 returns-4 c =

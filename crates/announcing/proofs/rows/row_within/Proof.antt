@@ -27,17 +27,27 @@ sub-last-2 c =
     omega arith
 
 add-last : tie.Need-add-last
-add-last c = let r = c .before .before .before .before .before .before .before .args .r in omega (arith, steps-small (r .step) (r .times) (omega arith) (omega arith))
+add-last c =
+    let asked = c .before .before .before .before .before in
+    let r = asked .before .before .args .r in
+    omega (arith, steps-small (r .step) (r .times) (omega arith) (omega arith))
 
 add-result : tie.Need-add-result
-add-result c = let r = c .before .before .before .before .before .before .before .before .args .r in omega (arith, steps-small (r .step) (r .times) (omega arith) (omega arith))
+add-result c =
+    let asked = c .before .before .before .before .before .before in
+    let r = asked .before .before .args .r in
+    omega (arith, steps-small (r .step) (r .times) (omega arith) (omega arith))
 
 add-result-2 : tie.Need-add-result-2
-add-result-2 c = let r = c .before .before .before .before .before .before .before .before .before .args .r in omega (arith, steps-small (r .step) (r .times) (omega arith) (omega arith))
+add-result-2 c =
+    let last = c .before .before .before .before in
+    let r = last .before .before .before .before .before .args .r in
+    omega (arith, steps-small (r .step) (r .times) (omega arith) (omega arith))
 
 returns-3 : tie.Need-returns-3
 returns-3 c =
-    let asked = c .before .before .before .before .before .before .before in
+    let last = c .before .before .before .before in
+    let asked = last .before .before .before in
     end-decides (asked .before .before .args .r) (sym (asked .before .is-empty .ensures) ∙ asked .if1 .left)
 
 pub row-within-spec : {M : Type 1} → statement M

@@ -33,8 +33,9 @@ returns-2 c =
 
 loop-again : tie.Need-loop-again Inv-loop μ-loop
 loop-again c =
-    let l = c .before .before .before .before .loop in
-    let a = c .before .before .before .before .before .before .before .before .before .args in
+    let turn = c .before .before .before .before in
+    let l = turn .loop in
+    let a = turn .before .before .before .before .before .args in
     (search needs, c .frame-on .ensures ∙ a-frame-on (a .present) (a .at) (l .i) (l .p) (l .inv .1), free-turn _ _ _ (l .i) (l .p) (l .inv .1) (l .inv .2) (c .before .if2 .left))
 
 returns-3 : tie.Need-returns-3 Inv-loop μ-loop

@@ -23,13 +23,19 @@ loop-holds c = (search needs, some-none _)
 returns : tie.Need-returns Inv-loop μ-loop
 unfolding anyOwn
 returns c =
-    let a = c .before .before .before .before .before .before .before .before .args in
-    some-hit (λ j. isOwn (holderAt (a .book .now) (a .v .present) (a .v .first + j))) (c .before .before .before .before .before .before .loop .i) (a .v .width) (omega arith) (own-there _ _ _ _ (c .before .before .place .ensures) (c .if2 .taken))
+    let turn = c .before .before .before .before .before .before in
+    let a = turn .before .before .args in
+    some-hit (λ j. isOwn (holderAt (a .book .now) (a .v .present) (a .v .first + j))) (turn .loop .i) (a .v .width) (omega arith)
+    (own-there _ _ _ _ (c .before .before .place .ensures) (c .if2 .taken))
 
 loop-again : tie.Need-loop-again Inv-loop μ-loop
 loop-again c =
-    let a = c .before .before .before .before .before .before .before .before .args in
-    (search needs, some-miss (λ j. isOwn (holderAt (a .book .now) (a .v .present) (a .v .first + j))) (c .before .before .before .before .before .before .loop .i) (c .before .before .before .before .before .before .loop .inv .1) (other-there _ _ _ _ (c .before .before .place .ensures) (c .if2 .left)))
+    let turn = c .before .before .before .before .before .before in
+    let a = turn .before .before .args in (
+      search needs,
+      some-miss (λ j. isOwn (holderAt (a .book .now) (a .v .present) (a .v .first + j))) (turn .loop .i) (turn .loop .inv .1)
+          (other-there _ _ _ _ (c .before .before .place .ensures) (c .if2 .left)),
+    )
 
 returns-2 : tie.Need-returns-2 Inv-loop μ-loop
 unfolding anyOwn

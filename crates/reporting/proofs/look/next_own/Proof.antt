@@ -13,15 +13,19 @@ sub-since : tie.Need-sub-since
 sub-since c = omega (arith, c .first .ensures, first-below (c .before .before .before .before .before .before .args .p) (c .before .before .k .given .0 .0))
 
 first-own-requires : tie.Need-first-own-requires
-first-own-requires c κs = (search needs, omega (arith, c .slots .ensures, slots-most (c .before .before .before .before .before .before .before .args .p)))
+first-own-requires c κs =
+    let found = c .before .before .before in
+    (search needs, omega (arith, c .slots .ensures, slots-most (found .before .before .before .before .args .p)))
 
 returns : tie.Need-returns
 returns c = sym (offset-out _ _ _ (told-out _ _ _ (c .enum-told .given .1) (c .before .before .window-of .ensures)))
 
 returns-2 : tie.Need-returns-2
 returns-2 c =
-    let w = told-in _ _ _ _ (c .before .before .before .before .k .given .1) (c .before .before .before .before .before .before .window-of .ensures) in
-    offset-found _ _ _ _ _ _ _ (c .before .before .before .before .before .before .before .before .pre .1) w (c .before .before .first .ensures) (c .before .slots .ensures) (c .first-own .ensures)
+    let found = c .before .before .before .before in
+    let w = told-in _ _ _ _ (found .k .given .1) (found .before .before .window-of .ensures) in
+    offset-found _ _ _ _ _ _ _ (found .before .before .before .before .pre .1) w (c .before .before .first .ensures) (c .before .slots .ensures)
+    (c .first-own .ensures)
 
 pub next-own-spec : {M : Type 1} → statement M
 next-own-spec =
