@@ -7,13 +7,15 @@ use Rattle.calls.proofs.stages.reported.Tie as tie
 
 returns : tie.Need-returns
 returns c =
-    let a = c .before .before .before .before .before .before .before .before .args in
-    report-done (a .book .now) (a .watch) (a .n) (a .t) _ _ (c .before .before .before .before .report .ensures) _ (c .before .before .told .given .1) (c .reply .ensures)
+    let asked = c .before .before .before .before in
+    let a = asked .before .before .before .before .args in
+    report-done (a .book .now) (a .watch) (a .n) (a .t) _ _ (asked .report .ensures) _ (c .before .before .told .given .1) (c .reply .ensures)
 
 returns-2 : tie.Need-returns-2
 returns-2 c =
-    let a = c .before .before .before .before .before .before .before .before .args in
-    report-not (a .book .now) (a .watch) (a .n) (a .t) _ _ (c .before .before .before .before .report .ensures) _ (c .before .before .told2 .given .1) (c .reply2 .ensures)
+    let asked = c .before .before .before .before in
+    let a = asked .before .before .before .before .args in
+    report-not (a .book .now) (a .watch) (a .n) (a .t) _ _ (asked .report .ensures) _ (c .before .before .told2 .given .1) (c .reply2 .ensures)
 
 pub reported-spec : {M : Type 1} → statement M
 reported-spec =

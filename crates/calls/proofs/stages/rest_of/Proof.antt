@@ -18,17 +18,20 @@ returns c =
 
 returns-2 : tie.Need-returns-2
 returns-2 c =
-    let a = c .before .before .before .before .before .before .before .before .before .args in
+    let read = c .before .before .before .before .before in
+    let a = read .before .before .before .before .args in
     rest-plan (a .c .task) (a .c) (a .n) (a .book .now) (c .before .before .replanned .result) _ _ (c .before .before .before .before .before .task2 .given .1) (c .before .before .replanned .ensures)
 
 returns-3 : tie.Need-returns-3
 returns-3 c =
-    let a = c .before .before .before .before .before .before .before .args in
+    let read = c .before .before .before in
+    let a = read .before .before .before .before .args in
     rest-own (a .c .task) (a .c) (a .n) (a .book .now) (c .reply2 .result) _ _ (c .before .before .before .task3 .given .1) (rw (c .reply2 .ensures, c .before .with-ship .ensures), refl)
 
 returns-4 : tie.Need-returns-4
 returns-4 c =
-    let a = c .before .before .before .before .before .before .before .args in
+    let read = c .before .before .before in
+    let a = read .before .before .before .before .args in
     rest-report (a .c .task) (a .c) (a .n) (a .book .now) (c .reported .result) _ _ (c .before .before .before .task4 .given .1) (c .reported .ensures, refl)
 
 returns-5 : tie.Need-returns-5

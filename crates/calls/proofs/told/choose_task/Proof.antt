@@ -26,16 +26,18 @@ returns-4 c =
 
 returns-5 : tie.Need-returns-5
 returns-5 c =
-    let plan = c .before .before .before .before .before .before .before in
+    let window = c .before .before .before .before in
+    let plan = window .before .before .before in
     let a = plan .before .before .before .args in
     choose-30 (a .fits) (a .p) (plan .before .before .if1 .left) (plan .before .good2 .result) (plan .before .good2 .ensures) (a .a) (plan .if2 .left) (too-long (a .p) (a .a) (c .if5 .taken))
 
 returns-6 : tie.Need-returns-6
 returns-6 c =
-    let plan = c .before .before .before .before .before .before .before in
+    let window = c .before .before .before .before in
+    let plan = window .before .before .before in
     let a = plan .before .before .before .args in
     choose-on (a .fits) (a .p) (plan .before .before .if1 .left) (plan .before .good2 .result) (plan .before .good2 .ensures) (a .a) (plan .if2 .left)
-    (can-be (a .p) (a .a) (c .before .before .before .before .if3 .left) (c .before .before .if4 .left) (c .if5 .left))
+    (can-be (a .p) (a .a) (window .if3 .left) (c .before .before .if4 .left) (c .if5 .left))
 
 pub choose-task-spec : {M : Type 1} → statement M
 choose-task-spec = tie.close (tie.spec returns (λ c κs. search needs) returns-2 returns-3 returns-4 returns-5 returns-6)
