@@ -39,15 +39,16 @@ pub fn smaller(a: u64, b: u64) -> u64
 
 // ---- by the book alone
 
-// The place a frame after this one, counted round the list.
-fn frame_on(p: usize) -> usize
-    requires { ⌜ p < slotTimes ⌝ }
-    ensures { λ r. ⌜ r ≡ (p + frameSlots) % slotTimes ⌝ }
+// The place i frames after this one, counted round the list.
+fn frames_on(p: usize, i: usize) -> usize
+    requires { ⌜ (p < slotTimes) × (i < 8) ⌝ }
+    ensures { λ r. ⌜ r ≡ (p + frameSlots * i) % slotTimes ⌝ }
 {
-    if p < SLOT_TIMES - FRAME {
-        return p + FRAME;
+    let q = p + FRAME * i;
+    if q < SLOT_TIMES {
+        return q;
     }
-    p - (SLOT_TIMES - FRAME)
+    q - SLOT_TIMES
 }
 
 // Whether the slot a frame earlier is in the book and own.
@@ -76,7 +77,7 @@ fn free_at(book: &[u16], present: usize, at: usize, m: usize) -> bool
         if book[p] != NONE {
             return false;
         }
-        p = frame_on(p);
+        p = frames_on(p, 1);
         i += 1;
     }
     true
@@ -180,18 +181,6 @@ pub fn times(x: Slot) -> usize
     ensures { λ r. ⌜ r ≡ x .times ⌝ }
 {
     x.times
-}
-
-// The place i frames after this one, counted round the list.
-fn frames_on(p: usize, i: usize) -> usize
-    requires { ⌜ (p < slotTimes) × (i < 8) ⌝ }
-    ensures { λ r. ⌜ r ≡ (p + frameSlots * i) % slotTimes ⌝ }
-{
-    let q = p + FRAME * i;
-    if q < SLOT_TIMES {
-        return q;
-    }
-    q - SLOT_TIMES
 }
 
 // The holder of the slot's time i.

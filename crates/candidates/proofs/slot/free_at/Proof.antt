@@ -36,7 +36,7 @@ loop-again c =
     let turn = c .before .before .before .before in
     let l = turn .loop in
     let a = turn .before .before .before .before .before .args in
-    (search needs, c .frame-on .ensures ∙ a-frame-on (a .present) (a .at) (l .i) (l .p) (l .inv .1), free-turn _ _ _ (l .i) (l .p) (l .inv .1) (l .inv .2) (c .before .if2 .left))
+    (search needs, c .frames-on .ensures ∙ a-frame-on (a .present) (a .at) (l .i) (l .p) (l .inv .1), free-turn _ _ _ (l .i) (l .p) (l .inv .1) (l .inv .2) (c .before .if2 .left))
 
 returns-3 : tie.Need-returns-3 Inv-loop μ-loop
 returns-3 c =
