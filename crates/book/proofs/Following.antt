@@ -1,35 +1,20 @@
 -- A tally changed where the counts and the records' tallies stand apart comes to the tally changed in the list of all.
 -- Assumes nothing.
 use mathlib.Core.Path.{_≡_, refl, sym, ap, _∙_}
-use mathlib.Core.Bool.{true, false}
+use mathlib.Core.Bool.{false}
 use mathlib.Core.List.{List}
-use Prim.Native.Nat.{ℕ, _-_, _≤_, _<_}
+use Prim.Native.Nat.{ℕ, _-_, _<_}
 use native.Mathlib.Decide.{ℕ-discrete, decLt}
 use native.Mathlib.Omega.{arith}
-use borrow.Author.Tests.{eq-eqb, ne-eqb, lt-ltb, le-ltb}
-use lib.Dec.{ltb}
+use borrow.Author.Tests.{eq-eqb, ne-eqb}
 use lib.ListN.{length, getD, set, length-set}
-use Rattle.laws.proofs.Tests.{both-no, pick-has}
+use Rattle.laws.proofs.Tests.{pick-has}
 use Rattle.limits.specs.Limits.{records}
 use Rattle.book.specs.declared.Counts.{Counts}
 use Rattle.book.specs.declared.Handing.{Handing}
 use Rattle.book.specs.Book.{Book, ours, isRecord, raised, lowered, wide, alter, bookOf, putAt, countsBy, talliesBy, followed, Puts, Gives}
+use Rattle.book.proofs.Holders.{is-record, nobody-has-none, others-have-none}
 use Rattle.book.proofs.Wide.{alter-free, alter-record, alter-own, alter-none}
-
--- ---- which holders have a record
-
-module _ (h : ℕ) where
-  pub is-record : 0 < h → h < ours → isRecord h ≡ true
-  unfolding isRecord
-  is-record p q = rw (lt-ltb 0 h p, lt-ltb h ours q)
-
-  pub nobody-has-none : h ≡ 0 → isRecord h ≡ false
-  unfolding isRecord
-  nobody-has-none e = rw (le-ltb 0 h (omega arith))
-
-  pub others-have-none : ours ≤ h → isRecord h ≡ false
-  unfolding isRecord
-  others-have-none l = rw (le-ltb h ours l) (both-no (ltb 0 h))
 
 -- ---- one count, v being the new number
 

@@ -1,4 +1,5 @@
 pub mod Wide
+pub mod Holders
 pub mod Following
 pub mod Steps
 pub mod Soundness

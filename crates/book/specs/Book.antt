@@ -22,6 +22,10 @@ holders = records + 2
 unfoldable pub isRecord : ℕ → Bool
 isRecord h = both (ltb 0 h) (ltb h ours)
 
+-- the place of a holder's record; the first one's for a holder without
+unfoldable pub recordAt : ℕ → ℕ
+recordAt h = pick (isRecord h) (h - 1) 0
+
 -- ---- tallies
 
 -- one more, stopping at 20,250 (a number above it stays); one less, stopping at 0

@@ -8,7 +8,7 @@ ghost use mathlib.Core.Path.{_≡_};
 ghost use Prim.Native.Nat.{_+_, _%_, _≤_, _<_};
 ghost use lib.ListN.{length, getD, replicate};
 ghost use Rattle.limits.specs.Limits.{slotTimes};
-ghost use Rattle.book.specs.Book.{ours, place, putAt, markAt, freeAt, released, Puts, Gives};
+ghost use Rattle.book.specs.Book.{isRecord, recordAt, ours, place, putAt, markAt, freeAt, released, Puts, Gives};
 ghost use Rattle.book.specs.Watch.{newWatch};
 use limits::RECORDS;
 use limits::SLOT_TIMES;
@@ -48,6 +48,26 @@ pub struct Handing {
     pub counts: Counts,
     pub old: u16,
     pub new: u16,
+}
+
+// Whether a holder has a record.
+pub fn is_record(h: u16) -> bool
+    ensures { λ r. ⌜ r ≡ isRecord h ⌝ }
+{
+    if h == NONE {
+        return false;
+    }
+    h < OWN
+}
+
+// The place of a holder's record; the first one's for a holder without.
+pub fn record_of(h: u16) -> usize
+    ensures { λ r. ⌜ r ≡ recordAt h ⌝ }
+{
+    if is_record(h) {
+        return (h - 1) as usize;
+    }
+    0
 }
 
 // A new watch: now is slot 0, nothing is held, no plan, our ship unknown.

@@ -27,7 +27,8 @@ use Rattle.candidates.specs.Slot.{View, frame, isOwn, isNone, stationOf,
 use Rattle.candidates.specs.Window.{worth, isFree, isAvailable}
 use Rattle.candidates.specs.Scanning.{level, worthBy, freeAt}
 use Rattle.candidates.proofs.Ranking.{avail-zero, avail-big}
-use Rattle.candidates.proofs.Slots.{record-yes, record-none, record-over, worth-earlier, worth-free, worth-held}
+use Rattle.book.proofs.Holders.{is-record, nobody-has-none, others-have-none}
+use Rattle.candidates.proofs.Slots.{worth-earlier, worth-free, worth-held}
 
 -- ---- the level of a station
 
@@ -133,15 +134,15 @@ module _ (v : View) (k : weKnown (v .ship) ≡ true) (h : ℕ) where
 
     nobody-unknown : one (isUnknown (v .reg) h) ≡ 0
     unfolding isUnknown
-    nobody-unknown = one-false (simp (record-none h z))
+    nobody-unknown = one-false (simp (nobody-has-none h z))
 
     nobody-held : one (isHeldOff (v .reg) h) ≡ 0
     unfolding isHeldOff
-    nobody-held = one-false (simp (record-none h z))
+    nobody-held = one-false (simp (nobody-has-none h z))
 
     nobody-gap : gap v h ≡ top
     unfolding gap
-    nobody-gap = simp (record-none h z)
+    nobody-gap = simp (nobody-has-none h z)
 
     nobody : Level
     nobody =
@@ -158,7 +159,7 @@ module _ (v : View) (k : weKnown (v .ship) ≡ true) (h : ℕ) where
     -- no record: ourselves, or one that counts as a base station
     over-base : ours ≤ h → one (isBase (v .reg) h) ≡ 1
     unfolding isBase isNone
-    over-base l = one-true (simp (ne-eqb h 0 z, record-over h z l))
+    over-base l = one-true (simp (ne-eqb h 0 z, others-have-none h l))
 
     own-level : h ≡ ours → level v h ≡ 0
     unfolding level isNone isOwn
@@ -178,7 +179,7 @@ module _ (v : View) (k : weKnown (v .ship) ≡ true) (h : ℕ) where
     module _ (n : h ≡ ours → ⊥) where
       over-level : ours ≤ h → level v h ≡ 2
       unfolding level isNone isOwn
-      over-level l = simp (ne-eqb h 0 z, ne-eqb h ours n, record-over h z l)
+      over-level l = simp (ne-eqb h 0 z, ne-eqb h ours n, others-have-none h l)
 
       without : ours ≤ h → Level
       without l =
@@ -195,23 +196,23 @@ module _ (v : View) (k : weKnown (v .ship) ≡ true) (h : ℕ) where
       module _ (l : h < ours) where
         its-level : level v h ≡ levelOf (v .ship) s
         unfolding level isNone isOwn
-        its-level = simp (ne-eqb h 0 z, ne-eqb h ours n, record-yes h z l)
+        its-level = simp (ne-eqb h 0 z, ne-eqb h ours n, is-record h (omega (arith, z)) l)
 
         its-base : one (isBase (v .reg) h) ≡ one (s .base)
         unfolding isBase isNone
-        its-base = simp (ne-eqb h 0 z, record-yes h z l)
+        its-base = simp (ne-eqb h 0 z, is-record h (omega (arith, z)) l)
 
         its-unknown : one (isUnknown (v .reg) h) ≡ one (not (isKnown s))
         unfolding isUnknown
-        its-unknown = simp (record-yes h z l)
+        its-unknown = simp (is-record h (omega (arith, z)) l)
 
         its-hold : one (isHeldOff (v .reg) h) ≡ one (ltb 0 (s .hold))
         unfolding isHeldOff
-        its-hold = simp (record-yes h z l)
+        its-hold = simp (is-record h (omega (arith, z)) l)
 
         its-gap : gap v h ≡ gapTo (v .ship) s
         unfolding gap
-        its-gap = simp (record-yes h z l)
+        its-gap = simp (is-record h (omega (arith, z)) l)
 
         station : Level
         station =

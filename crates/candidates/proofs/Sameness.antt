@@ -21,17 +21,17 @@ use Rattle.laws.proofs.Those.{those-ext}
 use Rattle.limits.specs.Limits.{frameSlots, slotTimes, widest, mostTimeOut}
 use Rattle.ship.specs.declared.Ship.{Ship}
 use Rattle.ship.specs.Ship.{blank}
-use Rattle.book.specs.Book.{place}
+use Rattle.book.specs.Book.{isRecord, recordAt, place}
 use Rattle.walks.specs.Folded.{folded}
 use Rattle.distance.specs.Distance.{weKnown, ownLevel, baseLevel, heldOffLevel, top, levelOf}
 use Rattle.candidates.specs.declared.Window.{Window}
 use Rattle.candidates.specs.declared.rounds.Best.{Best}
 use Rattle.candidates.specs.declared.slot.Slot.{Slot}
-use Rattle.candidates.specs.Slot.{View, holderAt, frame, isNone, isOwn, isRecord, stationOf, earlier}
+use Rattle.candidates.specs.Slot.{View, holderAt, frame, isNone, isOwn, stationOf, earlier}
 use Rattle.candidates.specs.Window.{isFree, isAvailable, free, rank, candidate, candidates, picked}
 use Rattle.candidates.specs.Rounds.{keyOf, keys, cutOf, within, inCut, BestIn, betterOf, cutAfter}
 use Rattle.candidates.specs.Choice.{worthIn, candidatesIn, choice}
-use Rattle.candidates.specs.Scanning.{level, worthBy, slotOf, freeIn, freeUptoFour, recordOf, levelBy, levelAt, heldIn, slotLevel, noneYet, boundOf, candidateBy, drawn}
+use Rattle.candidates.specs.Scanning.{level, worthBy, slotOf, freeIn, freeUptoFour, levelBy, levelAt, heldIn, slotLevel, noneYet, boundOf, candidateBy, drawn}
 use Rattle.candidates.proofs.Four.{best-none, best-next, better-none, better-low, cut-is}
 use Rattle.candidates.proofs.Ranking.{candidate-cut, key-not}
 use Rattle.candidates.proofs.Keys.{key-zero, key-mid, key-big, over-3}
@@ -45,7 +45,7 @@ use Rattle.candidates.proofs.Levels.{comes, free-worth, lost-worth}
 module _ (v : View) where
   -- a holder's level, its record looked up
   level-at : (h : ℕ) (x : Slot) → x .ship ≡ v .ship → levelAt (v .reg) h x ≡ level v h
-  unfolding levelAt levelBy level recordOf stationOf
+  unfolding levelAt levelBy level recordAt stationOf
   level-at h x e = go (isRecord h)
     where
       go : (t : Bool)

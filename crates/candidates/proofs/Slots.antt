@@ -4,7 +4,7 @@ use mathlib.Core.Path.{_≡_, refl, sym, ap, _∙_}
 use mathlib.Core.Bool.{Bool, true, false}
 use mathlib.Core.List.{List}
 use Prim.Native.Nat.{ℕ, zero, suc, _+_, _-_, _*_, _%_, _≤_, _<_}
-use native.Mathlib.Decide.{ℕ-discrete, decLt}
+use native.Mathlib.Decide.{ℕ-discrete}
 use native.Mathlib.Numerals.{add-one}
 use native.Mathlib.Omega.{arith}
 use lib.ListN.{getD}
@@ -18,12 +18,13 @@ use Rattle.limits.specs.Limits.{frameSlots, slotTimes}
 use Rattle.ship.specs.declared.Ship.{Ship}
 use Rattle.ship.specs.declared.Station.{Station}
 use Rattle.book.specs.Book.{ours, place}
+use Rattle.book.proofs.Holders.{is-record, others-have-none}
 use Rattle.distance.specs.Distance.{ownLevel, baseLevel, heldOffLevel, top, levelOf}
 use Rattle.candidates.specs.declared.Window.{Window}
 use Rattle.candidates.specs.declared.rounds.Best.{Best}
 use Rattle.candidates.specs.declared.slot.Slot.{Slot}
-use Rattle.candidates.specs.Slot.{holderAt, frame, isOwn, isNone, isRecord, earlier}
-use Rattle.candidates.specs.Scanning.{worthBy, slotOf, freeAt, freeIn, freeUptoFour, recordOf, levelBy, heldIn, stays, holderIn, reusedBy, candidateBy}
+use Rattle.candidates.specs.Slot.{holderAt, frame, isOwn, isNone, earlier}
+use Rattle.candidates.specs.Scanning.{worthBy, slotOf, freeAt, freeIn, freeUptoFour, levelBy, heldIn, stays, holderIn, reusedBy, candidateBy}
 
 -- a slot by its parts
 abbrev pub slotMade : ℕ → ℕ → ℕ → Bool → Ship → Slot
@@ -139,33 +140,9 @@ pub few-free : (slots : List ℕ) (w : Window) (i n : ℕ) → n ≡ howMany (fr
 unfolding freeUptoFour
 few-free slots w i n e q l = omega (arith, ap (howMany (freeIn slots w)) q)
 
--- ---- a holder's record, and its level
+-- ---- the level of a holder
 
 module _ (h : ℕ) where
-  pub record-yes : (h ≡ 0 → ⊥) → h < ours → isRecord h ≡ true
-  unfolding isRecord
-  record-yes p l = simp (lt-ltb 0 h (omega (arith, p)), lt-ltb h ours l)
-
-  pub record-none : h ≡ 0 → isRecord h ≡ false
-  unfolding isRecord
-  record-none e = simp (le-ltb 0 h (omega arith))
-
-  pub record-over : (h ≡ 0 → ⊥) → ours ≤ h → isRecord h ≡ false
-  unfolding isRecord
-  record-over p l = simp (lt-ltb 0 h (omega (arith, p)), le-ltb h ours l)
-
-  pub place-none : h ≡ 0 → 0 ≡ recordOf h
-  unfolding recordOf
-  place-none e = simp (record-none e)
-
-  pub place-record : (h ≡ 0 → ⊥) → h < ours → h - 1 ≡ recordOf h
-  unfolding recordOf
-  place-record p l = simp (record-yes p l)
-
-  pub place-over : (h ≡ 0 → ⊥) → ours ≤ h → 0 ≡ recordOf h
-  unfolding recordOf
-  place-over p l = simp (record-over p l)
-
   module _ (s : Station) (x : Slot) where
     pub level-none : h ≡ 0 → top ≡ levelBy s h x
     unfolding levelBy isNone
@@ -179,20 +156,11 @@ module _ (h : ℕ) where
       module _ (o : h ≡ ours → ⊥) where
         pub level-record : h < ours → levelOf (x .ship) s ≡ levelBy s h x
         unfolding levelBy isNone isOwn
-        level-record l = simp (ne-eqb h 0 p, ne-eqb h ours o, record-yes p l)
+        level-record l = simp (ne-eqb h 0 p, ne-eqb h ours o, is-record h (omega (arith, p)) l)
 
         pub level-other : ours ≤ h → baseLevel ≡ levelBy s h x
         unfolding levelBy isNone isOwn
-        level-other l = simp (ne-eqb h 0 p, ne-eqb h ours o, record-over p l)
-
--- a record's place is in the register
-pub place-inside : (h : ℕ) → recordOf h < 255
-place-inside h = go (ℕ-discrete h 0) (decLt h ours)
-  where
-    go : Dec (h ≡ 0) → Dec (h < ours) → recordOf h < 255
-    go (yes e) q = omega (arith, place-none h e)
-    go (no e) (yes l) = omega (arith, place-record h e l)
-    go (no e) (no l) = omega (arith, place-over h e (omega arith))
+        level-other l = simp (ne-eqb h 0 p, ne-eqb h ours o, others-have-none h l)
 
 -- ---- a worth
 

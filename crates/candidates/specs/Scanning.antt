@@ -13,14 +13,14 @@ use Rattle.limits.specs.Limits.{frameSlots, slotTimes}
 use Rattle.ship.specs.declared.Ship.{Ship}
 use Rattle.ship.specs.declared.Station.{Station}
 use Rattle.ship.specs.Ship.{blank}
-use Rattle.book.specs.Book.{place}
+use Rattle.book.specs.Book.{isRecord, recordAt, place}
 use Rattle.walks.specs.Folded.{folded}
 use Rattle.distance.specs.Distance.{ownLevel, baseLevel, heldOffLevel, top, levelOf}
 use Rattle.candidates.specs.declared.Window.{Window}
 use Rattle.candidates.specs.declared.Picked.{Picked}
 use Rattle.candidates.specs.declared.slot.Slot.{Slot}
 use Rattle.candidates.specs.declared.rounds.Best.{Best}
-use Rattle.candidates.specs.Slot.{View, frame, isNone, isOwn, isRecord, stationOf, earlier}
+use Rattle.candidates.specs.Slot.{View, frame, isNone, isOwn, stationOf, earlier}
 use Rattle.candidates.specs.Window.{picked}
 
 -- ---- a slot's state by the lowest level of its times
@@ -59,16 +59,12 @@ freeUptoFour slots w = min 4 (howMany (freeIn slots w) (w .width))
 
 -- ---- a holder's record, looked up
 
--- the place of its record; 0 where it has none
-unfoldable pub recordOf : ℕ → ℕ
-recordOf h = pick (isRecord h) (h - 1) 0
-
 -- the level of the holder h with the record s
 unfoldable pub levelBy : Station → ℕ → Slot → ℕ
 levelBy s h x = pick (isNone h) top (pick (isOwn h) ownLevel (pick (isRecord h) (levelOf (x .ship) s) baseLevel))
 
 unfoldable pub levelAt : List Station → ℕ → Slot → ℕ
-levelAt reg h x = levelBy (getD reg (recordOf h) blank) h x
+levelAt reg h x = levelBy (getD reg (recordAt h) blank) h x
 
 -- ---- the lowest level of a slot's holders
 

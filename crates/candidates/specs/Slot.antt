@@ -11,7 +11,7 @@ use Rattle.limits.specs.Limits.{frameSlots}
 use Rattle.ship.specs.declared.Ship.{Ship}
 use Rattle.ship.specs.declared.Station.{Station}
 use Rattle.ship.specs.Ship.{blank}
-use Rattle.book.specs.Book.{ours, place}
+use Rattle.book.specs.Book.{ours, isRecord, place}
 use Rattle.distance.specs.Distance.{gapTo, weKnown, isKnown, top}
 use Rattle.candidates.specs.declared.SlotState.{SlotState}
 use Rattle.candidates.specs.declared.SlotState.the-variants.{Own, Earlier, Free, OwnUnknown, Base, Unknown, HeldOff, Far}
@@ -37,10 +37,7 @@ isOwn h = eqb h ours
 unfoldable pub isNone : ℕ → Bool
 isNone h = eqb h 0
 
--- a holder with a record, and its record
-unfoldable pub isRecord : ℕ → Bool
-isRecord h = both (ltb 0 h) (ltb h ours)
-
+-- the record of a holder that has one
 unfoldable pub stationOf : List Station → ℕ → Station
 stationOf reg h = getD reg (h - 1) blank
 

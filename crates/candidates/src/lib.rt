@@ -11,6 +11,7 @@ ghost use lib.ListN.{length, take};
 ghost use Rattle.laws.specs.Ranges.{those};
 ghost use Rattle.limits.specs.Limits.{frameSlots, slotTimes, records, widest, mostTimeOut};
 ghost use Rattle.candidates.specs.Scanning.{levelAt, slotLevel, candidateBy, drawn};
+use book::record_of;
 use limits::WIDEST;
 use rounds::Best;
 use rounds::candidate_bit;
@@ -20,7 +21,6 @@ use slot::holder;
 use slot::level_by;
 use slot::lower;
 use slot::nobodys;
-use slot::record_of;
 use slot::times;
 
 // A slot with its later frames, for the choice. `Earlier`: the slot a frame earlier is own. `OwnUnknown` to `HeldOff`: why it is not available. `Far`:

@@ -7,7 +7,7 @@ ghost use Rattle.laws.specs.Counting.{one};
 ghost use Rattle.limits.specs.Limits.{frameSlots, slotTimes, widest, mostTimeOut};
 ghost use Rattle.distance.specs.Distance.{top};
 ghost use Rattle.candidates.specs.Slot.{earlier};
-ghost use Rattle.candidates.specs.Scanning.{worthBy, slotOf, freeAt, freeIn, freeUptoFour, recordOf, levelBy, heldIn, holderIn};
+ghost use Rattle.candidates.specs.Scanning.{worthBy, slotOf, freeAt, freeIn, freeUptoFour, levelBy, heldIn, holderIn};
 use crate::Window;
 use book::NONE;
 use book::OWN;
@@ -137,19 +137,6 @@ pub fn slot_of(book: &[u16], w: Window, ship: Ship, bound: u64, i: usize) -> Slo
 }
 
 // ---- by a holder's record
-
-// The place of a holder's record; 0 for one without.
-pub fn record_of(h: u16) -> usize
-    ensures { λ r. ⌜ r ≡ recordOf h ⌝ }
-{
-    if h == NONE {
-        return 0;
-    }
-    if h < OWN {
-        return (h - 1) as usize;
-    }
-    0
-}
 
 // The level of the holder h with the record s. One without a record counts as a base station.
 pub fn level_by(s: Station, h: u16, x: Slot) -> u64

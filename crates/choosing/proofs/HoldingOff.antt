@@ -21,7 +21,7 @@ use Rattle.book.specs.Book.{ours, isRecord, talliesOf, holder, place, putAt}
 use Rattle.candidates.specs.Slot.{holderAt}
 use Rattle.register.specs.State.{State, bookIn, withHold, tallied, settle, heldOff, owned}
 use Rattle.register.specs.Answers.{Answered, sized}
-use Rattle.register.proofs.Holders.{record-is}
+use Rattle.book.proofs.Holders.{record-is}
 use Rattle.register.proofs.Settling.{tallied-length}
 use Rattle.choosing.specs.Choose.{chooseTests, chosen}
 use Rattle.choosing.specs.Owning.{ownedIn}

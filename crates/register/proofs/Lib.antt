@@ -1,4 +1,3 @@
-pub mod Holders
 pub mod Followed
 pub mod Data
 pub mod Settling

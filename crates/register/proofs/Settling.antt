@@ -16,13 +16,13 @@ use Rattle.limits.specs.Limits.{records, holdOff}
 use Rattle.ship.specs.declared.Station.{Station}
 use Rattle.ship.specs.Ship.{blank}
 use Rattle.book.specs.declared.Counts.{Counts}
-use Rattle.book.specs.Book.{Book, ours, holders, isRecord, raised, lowered, bookOf, talliesOf, countsOf, talliesBy, Puts}
+use Rattle.book.specs.Book.{Book, ours, holders, isRecord, recordAt, raised, lowered, bookOf, talliesOf, countsOf, talliesBy, Puts}
 use Rattle.book.proofs.Lengths.{all-records}
 use Rattle.book.proofs.Once.{tallies-back, counts-back, parts-make}
 use Rattle.register.specs.declared.Turn.{Turn}
 use Rattle.register.specs.State.{State, stateOf, talliesIn, bookIn, withTally, withHold, withCounts, tallied, settle, heldOff}
-use Rattle.register.specs.Register.{recordAt, lessBy, moreBy, lostIn, wonIn}
-use Rattle.register.proofs.Holders.{its-record, inside}
+use Rattle.register.specs.Register.{lessBy, moreBy, lostIn, wonIn}
+use Rattle.book.proofs.Holders.{its-record, inside}
 use Rattle.register.proofs.Followed.{less-none, less-held, more-none}
 
 -- ---- lists

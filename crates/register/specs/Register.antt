@@ -1,6 +1,6 @@
 -- One record that follows what was done to a slot time; slots that pass before the hold-offs fall.
 -- Assumes nothing.
-use Prim.Native.Nat.{ℕ, _-_, _%_}
+use Prim.Native.Nat.{ℕ, _%_}
 use mathlib.Core.List.{List}
 use lib.Dec.{eqb}
 use lib.ListN.{getD, set}
@@ -9,13 +9,9 @@ use Rattle.laws.specs.Loops.{upto}
 use Rattle.limits.specs.Limits.{slotTimes, holdOff}
 use Rattle.ship.specs.declared.Station.{Station}
 use Rattle.ship.specs.Ship.{blank}
-use Rattle.book.specs.Book.{ours, isRecord, raised, lowered, putAt}
+use Rattle.book.specs.Book.{ours, isRecord, recordAt, raised, lowered, putAt}
 use Rattle.register.specs.declared.Turn.{Turn}
 use Rattle.register.specs.State.{State, bookIn, withTally, withHold, settle, movedOn}
-
--- the place of a holder's record; the first one's for a holder without
-unfoldable pub recordAt : ℕ → ℕ
-recordAt h = pick (isRecord h) (h - 1) 0
 
 -- one less, and held off where the slot time became ours; a holder without a record changes nothing
 unfoldable pub lessBy : Station → Turn → Station

@@ -4,12 +4,13 @@
 ghost use mathlib.Core.Path.{_≡_};
 ghost use lib.ListN.{length};
 ghost use Rattle.limits.specs.Limits.{records};
-ghost use Rattle.book.specs.Book.{isRecord};
-ghost use Rattle.register.specs.Register.{recordAt, lessBy, moreBy, lostIn, wonIn};
+ghost use Rattle.book.specs.Book.{recordAt};
+ghost use Rattle.register.specs.Register.{lessBy, moreBy, lostIn, wonIn};
 use book::Handing;
-use book::NONE;
 use book::OWN;
 use book::Watch;
+use book::is_record;
+use book::record_of;
 use book::tally::down;
 use book::tally::up;
 use message::state::SubMessage;
@@ -56,25 +57,6 @@ pub enum Answer {
 pub struct Reply {
     pub watch: Watch,
     pub answer: Answer,
-}
-
-fn is_record(h: u16) -> bool
-    ensures { λ r. ⌜ r ≡ isRecord h ⌝ }
-{
-    if h == NONE {
-        return false;
-    }
-    h < OWN
-}
-
-// The place of a holder's record; the first one's for a holder without.
-fn record_of(h: u16) -> usize
-    ensures { λ r. ⌜ r ≡ recordAt h ⌝ }
-{
-    if is_record(h) {
-        return (h - 1) as usize;
-    }
-    0
 }
 
 fn loser(t: Turn) -> usize

@@ -1,10 +1,10 @@
 use mathlib.Core.Path.{sym, refl}
 use native.Mathlib.Omega.{arith}
 use borrow.Author.Tests.{lt-ltb}
 use Rattle.book.specs.Book.{isRecord}
-use Rattle.book.proofs.Following.{nobody-has-none}
-use Rattle.register.proofs.is_record.Statement.{statement}
-use Rattle.register.proofs.is_record.Tie as tie
+use Rattle.book.proofs.Holders.{nobody-has-none}
+use Rattle.book.proofs.is_record.Statement.{statement}
+use Rattle.book.proofs.is_record.Tie as tie
 
 returns : tie.Need-returns
 returns c = sym (nobody-has-none _ (c .if1 .taken))

@@ -2,14 +2,26 @@
 -- Assumes nothing.
 use mathlib.Core.Path.{_≡_, refl}
 use mathlib.Core.Bool.{Bool, true, false}
-use Prim.Native.Nat.{ℕ, _-_, _<_}
+use Prim.Native.Nat.{ℕ, _-_, _≤_, _<_}
 use native.Mathlib.Omega.{arith}
-use borrow.Author.Tests.{ltb-true}
+use borrow.Author.Tests.{ltb-true, lt-ltb, le-ltb}
 use lib.Dec.{ltb}
-use Rattle.laws.proofs.Tests.{both-left, both-right}
+use Rattle.laws.proofs.Tests.{both-no, both-left, both-right}
 use Rattle.limits.specs.Limits.{records}
-use Rattle.book.specs.Book.{ours, isRecord}
-use Rattle.register.specs.Register.{recordAt}
+use Rattle.book.specs.Book.{ours, isRecord, recordAt}
+
+module _ (h : ℕ) where
+  pub is-record : 0 < h → h < ours → isRecord h ≡ true
+  unfolding isRecord
+  is-record p q = rw (lt-ltb 0 h p, lt-ltb h ours q)
+
+  pub nobody-has-none : h ≡ 0 → isRecord h ≡ false
+  unfolding isRecord
+  nobody-has-none e = rw (le-ltb 0 h (omega arith))
+
+  pub others-have-none : ours ≤ h → isRecord h ≡ false
+  unfolding isRecord
+  others-have-none l = rw (le-ltb h ours l) (both-no (ltb 0 h))
 
 pub record-is : (h : ℕ) → isRecord h ≡ true → (0 < h) × (h < ours)
 unfolding isRecord

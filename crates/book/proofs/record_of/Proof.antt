@@ -1,9 +1,9 @@
 use mathlib.Core.Path.{sym, _∙_}
 use native.Mathlib.Omega.{arith}
-use Rattle.register.proofs.Holders.{record-is, its-record, no-record}
+use Rattle.book.proofs.Holders.{record-is, its-record, no-record}
 use borrow.Author.Needs.{needs}
-use Rattle.register.proofs.record_of.Statement.{statement}
-use Rattle.register.proofs.record_of.Tie as tie
+use Rattle.book.proofs.record_of.Statement.{statement}
+use Rattle.book.proofs.record_of.Tie as tie
 
 sub-result : tie.Need-sub-result
 sub-result c = let r = record-is _ (sym (c .before .is-record .ensures) ∙ c .if1 .taken) in omega (arith, r .0)
