@@ -2,21 +2,19 @@
 use mir.Syntax.{w16, w64}
 use Rattle.walks.proofs.Datum.{Datum, Law, struct, struct-law, number, number-law}
 use Rattle.candidates.proofs.slot.Slot as S
-use Rattle.candidates.proofs.slot.Slot.Laws as S′
 use Rattle.candidates.proofs.rounds.Best as B
-use Rattle.candidates.proofs.rounds.Best.Laws as B′
 
 abbrev pub SlotD : Datum
 SlotD = struct S.the-type
 
 abbrev pub SlotL : Law SlotD
-SlotL = struct-law S.the-type S′.the-laws S′.the-plain
+SlotL = struct-law S.the-type S.Laws.the-laws S.Laws.the-plain
 
 abbrev pub BestD : Datum
 BestD = struct B.the-type
 
 abbrev pub BestL : Law BestD
-BestL = struct-law B.the-type B′.the-laws B′.the-plain
+BestL = struct-law B.the-type B.Laws.the-laws B.Laws.the-plain
 
 abbrev pub HolderD : Datum
 HolderD = number w16

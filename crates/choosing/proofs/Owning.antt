@@ -6,11 +6,11 @@ use lib.Dec.{ltb}
 use lib.ListN.{length}
 use Rattle.limits.specs.Limits.{records}
 use Rattle.register.specs.Register.{lostIn, wonIn}
-use Rattle.register.proofs.Data.{TurnD}
+use Rattle.register.proofs.Data.{TurnD, ReplyD}
 use Rattle.walks.specs.Out.{Ends}
 use Rattle.walks.proofs.Walking.{Meaning, Enough}
 use Rattle.choosing.specs.Owning.{started, Steps, OwnsOne, replyOf, Owns, ownedOut}
-use Rattle.choosing.proofs.Data.{OwningD, ReplyD}
+use Rattle.choosing.proofs.Data.{OwningD}
 use Rattle.choosing.proofs.Frames as Frames
 
 abbrev pub ofFrames : Meaning OwningD TurnD ReplyD
