@@ -45,9 +45,7 @@ use Rattle.bits.proofs.Walks.{answers}
 use Rattle.bits.proofs.reader.Reader as T
 use Rattle.bits.proofs.reader.Reader.Laws as T′
 use Rattle.bits.proofs.field.field as field
-use Rattle.bits.proofs.field.field.Symbol as field-def
 use Rattle.bits.proofs.field.field.Symbol.{name as #field}
-use Rattle.bits.proofs.field.field.Met as field-thm
 use Rattle.bits.proofs.reader.next.Key.{name as #next}
 use Rattle.bits.proofs.reader.next as next
 use Rattle.bits.proofs.reader.next.Statement as stated
@@ -149,4 +147,4 @@ next-spec 𝓤 H 𝓜 𝓖 𝓡 =
     entered 𝓤 H (tripleOf 𝓤 H (𝓖 .A) next.signature (next.spec 𝓤 H (𝓖 .A) (𝓜 .mem) (𝓡 .run)))
     (tables 𝓤 H 𝓜 𝓡 code.env .C) (tables 𝓤 H 𝓜 𝓡 code.env .Λ) #next code.function (code.unfolded 𝓤 H 𝓜 𝓡)
     (next-meets 𝓤 H (𝓖 .A) (givenOf 𝓤 H 𝓜 𝓖) (𝓜 .mem) (𝓡 .run) (tablesOf 𝓤 H 𝓜 (tables 𝓤 H 𝓜 𝓡 code.env))
-    (cited 𝓤 H (Field 𝓤 H (𝓖 .A) (𝓜 .mem) (𝓡 .run)) 𝓜 𝓡 code.env #field field-def.routine code.calls-bits·field·field (field-thm.met 𝓤 H 𝓜 𝓖 𝓡)))
+    (cited 𝓤 H (Field 𝓤 H (𝓖 .A) (𝓜 .mem) (𝓡 .run)) 𝓜 𝓡 code.env #field field.Symbol.routine code.calls-bits·field·field (field.Met.met 𝓤 H 𝓜 𝓖 𝓡)))

@@ -48,20 +48,13 @@ use Rattle.bits.proofs.reader.Reader.Laws as T′
 use Rattle.bits.proofs.reader.Four as F
 use Rattle.bits.proofs.reader.Four.Laws as F′
 use Rattle.bits.proofs.reader.start as start
-use Rattle.bits.proofs.reader.start.Symbol as start-def
 use Rattle.bits.proofs.reader.start.Symbol.{name as #start}
-use Rattle.bits.proofs.reader.start.Met as start-thm
 use Rattle.bits.proofs.reader.next as next
-use Rattle.bits.proofs.reader.next.Symbol as next-def
 use Rattle.bits.proofs.reader.next.Symbol.{name as #next}
-use Rattle.bits.proofs.reader.next.Met as next-thm
 use Rattle.bits.proofs.reader.moved as moved
-use Rattle.bits.proofs.reader.moved.Symbol as moved-def
 use Rattle.bits.proofs.reader.moved.Symbol.{name as #moved}
-use Rattle.bits.proofs.reader.moved.Met as moved-thm
 use Rattle.bits.proofs.reader.take_four.Key.{name as #take-four}
 use Rattle.bits.proofs.reader.take_four as f
-use Rattle.bits.proofs.reader.take_four.Statement as stated
 use Rattle.bits.proofs.reader.take_four.Code as code
 
 -- nothing is had of a parameter at exit
@@ -243,12 +236,11 @@ f-meets 𝓤 H A W mem run 𝓣 known-start known-next known-moved =
     (goes-dropped 𝓤 H A W 1 (shrSliceOf (0 ∷ []) tt (plain (λ _. u8))) yes (λ κs x f. refl), (gone, (gone, (gone, (gone, (gone, tt))))))
     (f.clauses 𝓤 H A mem run) (WpFn 𝓤 H (𝓣 .C) (𝓣 .Λ) code.function) (WpFn-mono 𝓤 H (W .laws) 𝓣 code.function) (f-walks 𝓤 H A W mem run (𝓣 .C) (𝓣 .Λ) (fmOf 𝓤 H (W .laws) 𝓣) known-start known-next known-moved)
 
-pub take-four-spec : {M : Type 1} → stated.statement M
+pub take-four-spec : {M : Type 1} → f.Statement.statement M
 unfolding code.routine tablesOf
 take-four-spec 𝓤 H 𝓜 𝓖 𝓡 =
-    entered 𝓤 H (tripleOf 𝓤 H (𝓖 .A) f.signature (f.spec 𝓤 H (𝓖 .A) (𝓜 .mem) (𝓡 .run)))
-    (tables 𝓤 H 𝓜 𝓡 code.env .C) (tables 𝓤 H 𝓜 𝓡 code.env .Λ) #take-four code.function (code.unfolded 𝓤 H 𝓜 𝓡)
+    entered 𝓤 H _ (tables 𝓤 H 𝓜 𝓡 code.env .C) (tables 𝓤 H 𝓜 𝓡 code.env .Λ) #take-four code.function (code.unfolded 𝓤 H 𝓜 𝓡)
     (f-meets 𝓤 H (𝓖 .A) (givenOf 𝓤 H 𝓜 𝓖) (𝓜 .mem) (𝓡 .run) (tablesOf 𝓤 H 𝓜 (tables 𝓤 H 𝓜 𝓡 code.env))
-    (cited 𝓤 H (Start 𝓤 H (𝓖 .A) (𝓜 .mem) (𝓡 .run)) 𝓜 𝓡 code.env #start start-def.routine code.calls-bits·reader·start (start-thm.met 𝓤 H 𝓜 𝓖 𝓡))
-    (cited 𝓤 H (Next 𝓤 H (𝓖 .A) (𝓜 .mem) (𝓡 .run)) 𝓜 𝓡 code.env #next next-def.routine code.calls-bits·reader·next (next-thm.met 𝓤 H 𝓜 𝓖 𝓡))
-    (cited 𝓤 H (Moved 𝓤 H (𝓖 .A) (𝓜 .mem) (𝓡 .run)) 𝓜 𝓡 code.env #moved moved-def.routine code.calls-bits·reader·moved (moved-thm.met 𝓤 H 𝓜 𝓖 𝓡)))
+    (cited 𝓤 H (Start 𝓤 H (𝓖 .A) (𝓜 .mem) (𝓡 .run)) 𝓜 𝓡 code.env #start start.Symbol.routine code.calls-bits·reader·start (start.Met.met 𝓤 H 𝓜 𝓖 𝓡))
+    (cited 𝓤 H (Next 𝓤 H (𝓖 .A) (𝓜 .mem) (𝓡 .run)) 𝓜 𝓡 code.env #next next.Symbol.routine code.calls-bits·reader·next (next.Met.met 𝓤 H 𝓜 𝓖 𝓡))
+    (cited 𝓤 H (Moved 𝓤 H (𝓖 .A) (𝓜 .mem) (𝓡 .run)) 𝓜 𝓡 code.env #moved moved.Symbol.routine code.calls-bits·reader·moved (moved.Met.met 𝓤 H 𝓜 𝓖 𝓡)))

@@ -10,30 +10,20 @@ use Rattle.calls.specs.Stages.{Fit, older, doneOut, agedOut}
 use Rattle.calls.proofs.Joining.{aged-fits}
 use Rattle.calls.proofs.Data.{CaseD, CaseL}
 use contract.Running.{givenOf, tables, tablesOf}
-use denote.Triple.Spec.{tripleOf}
 use denote.Triple.Table.{entered, cited}
 use Rattle.walks.proofs.First.{meets}
 use Rattle.calls.proofs.stages.age as u
-use Rattle.calls.proofs.stages.age.Symbol as u-def
-use Rattle.calls.proofs.stages.age.Met as u-thm
 use Rattle.calls.proofs.stages.answer as h
-use Rattle.calls.proofs.stages.answer.Symbol as h-def
-use Rattle.calls.proofs.stages.answer.Met as h-thm
-use Rattle.calls.proofs.stages.age_and_answer.Key.{name as #f}
 use Rattle.calls.proofs.stages.age_and_answer as f
-use Rattle.calls.proofs.stages.age_and_answer.Statement as stated
 use Rattle.calls.proofs.stages.age_and_answer.Code as code
 
-pub age-and-answer-spec : {M : Type 1} → stated.statement M
+pub age-and-answer-spec : {M : Type 1} → f.Statement.statement M
 unfolding code.routine tablesOf
 age-and-answer-spec 𝓤 H 𝓜 𝓖 𝓡 =
-    entered 𝓤 H (tripleOf 𝓤 H (𝓖 .A) f.signature (f.spec 𝓤 H (𝓖 .A) (𝓜 .mem) (𝓡 .run)))
-    (tables 𝓤 H 𝓜 𝓡 code.env .C) (tables 𝓤 H 𝓜 𝓡 code.env .Λ) #f code.function (code.unfolded 𝓤 H 𝓜 𝓡)
+    entered 𝓤 H _ (tables 𝓤 H 𝓜 𝓡 code.env .C) (tables 𝓤 H 𝓜 𝓡 code.env .Λ) f.Key.name code.function (code.unfolded 𝓤 H 𝓜 𝓡)
     (meets CaseD CaseL ReplyD ReplyL (λ ys c. length ys ≡ records) (λ ys c. map (λ (s : Station). older s c) ys) Fit (λ c ys bs r zs cs. Ends (doneOut c ys bs) r zs cs)
     Fit (λ c ys bs r zs cs. Ends (agedOut c ys bs) r zs cs) (λ ys bs c n. n .sized .register) (λ ys bs c n lu. aged-fits c ys bs n)
-    (λ ys bs c r zs cs n e lu lz lc. e) u-def.name h-def.name
+    (λ ys bs c r zs cs n e lu lz lc. e) u.Symbol.name h.Symbol.name
     𝓤 H (𝓖 .A) (givenOf 𝓤 H 𝓜 𝓖) (tablesOf 𝓤 H 𝓜 (tables 𝓤 H 𝓜 𝓡 code.env))
-    (cited 𝓤 H (tripleOf 𝓤 H (𝓖 .A) u.signature (u.spec 𝓤 H (𝓖 .A) (𝓜 .mem) (𝓡 .run))) 𝓜 𝓡 code.env
-    u-def.name u-def.routine code.calls-calls·stages·age (u-thm.met 𝓤 H 𝓜 𝓖 𝓡))
-    (cited 𝓤 H (tripleOf 𝓤 H (𝓖 .A) h.signature (h.spec 𝓤 H (𝓖 .A) (𝓜 .mem) (𝓡 .run))) 𝓜 𝓡 code.env
-    h-def.name h-def.routine code.calls-calls·stages·answer (h-thm.met 𝓤 H 𝓜 𝓖 𝓡)))
+    (cited 𝓤 H _ 𝓜 𝓡 code.env u.Symbol.name _ code.calls-calls·stages·age (u.Met.met 𝓤 H 𝓜 𝓖 𝓡))
+    (cited 𝓤 H _ 𝓜 𝓡 code.env h.Symbol.name _ code.calls-calls·stages·answer (h.Met.met 𝓤 H 𝓜 𝓖 𝓡)))

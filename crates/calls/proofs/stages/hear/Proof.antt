@@ -9,31 +9,21 @@ use Rattle.calls.specs.Stages.{Sized, Fit, isHear, Sought, enteredOut, d
 use Rattle.calls.proofs.Joining.{sought-fits, heard-is}
 use Rattle.calls.proofs.Data.{CaseD, CaseL}
 use contract.Running.{givenOf, tables, tablesOf}
-use denote.Triple.Spec.{tripleOf}
 use denote.Triple.Table.{entered, cited}
 use Rattle.walks.proofs.Then.{meets}
 use Rattle.calls.proofs.stages.seek as g
-use Rattle.calls.proofs.stages.seek.Symbol as g-def
-use Rattle.calls.proofs.stages.seek.Met as g-thm
 use Rattle.calls.proofs.stages.enter as h
-use Rattle.calls.proofs.stages.enter.Symbol as h-def
-use Rattle.calls.proofs.stages.enter.Met as h-thm
-use Rattle.calls.proofs.stages.hear.Key.{name as #f}
 use Rattle.calls.proofs.stages.hear as f
-use Rattle.calls.proofs.stages.hear.Statement as stated
 use Rattle.calls.proofs.stages.hear.Code as code
 
-pub hear-spec : {M : Type 1} → stated.statement M
+pub hear-spec : {M : Type 1} → f.Statement.statement M
 unfolding code.routine tablesOf
 hear-spec 𝓤 H 𝓜 𝓖 𝓡 =
-    entered 𝓤 H (tripleOf 𝓤 H (𝓖 .A) f.signature (f.spec 𝓤 H (𝓖 .A) (𝓜 .mem) (𝓡 .run)))
-    (tables 𝓤 H 𝓜 𝓡 code.env .C) (tables 𝓤 H 𝓜 𝓡 code.env .Λ) #f code.function (code.unfolded 𝓤 H 𝓜 𝓡)
+    entered 𝓤 H _ (tables 𝓤 H 𝓜 𝓡 code.env .C) (tables 𝓤 H 𝓜 𝓡 code.env .Λ) f.Key.name code.function (code.unfolded 𝓤 H 𝓜 𝓡)
     (meets CaseD CaseL BookingD BookingL ReplyD ReplyL (λ ys bs c. Sized ys bs) Sought Booked (λ b ys bs r zs cs. Ends (enteredOut b ys bs) r zs cs)
     (λ ys bs c. Fit ys bs c × (isHear (c .task) ≡ true)) (λ c ys bs r zs cs. Ends (doneOut c ys bs) r zs cs)
     (λ ys bs c n. n .0 .sized) (λ ys bs c b zs cs n s lz lc. sought-fits c ys bs b zs cs (n .0 .sized) s)
-    (λ ys bs c b zs cs r zs′ cs′ n s e lz lc mz mc. heard-is c ys bs b zs cs r zs′ cs′ (n .0 .sized) (n .1) s e) g-def.name h-def.name
+    (λ ys bs c b zs cs r zs′ cs′ n s e lz lc mz mc. heard-is c ys bs b zs cs r zs′ cs′ (n .0 .sized) (n .1) s e) g.Symbol.name h.Symbol.name
     𝓤 H (𝓖 .A) (givenOf 𝓤 H 𝓜 𝓖) (tablesOf 𝓤 H 𝓜 (tables 𝓤 H 𝓜 𝓡 code.env))
-    (cited 𝓤 H (tripleOf 𝓤 H (𝓖 .A) g.signature (g.spec 𝓤 H (𝓖 .A) (𝓜 .mem) (𝓡 .run))) 𝓜 𝓡 code.env
-    g-def.name g-def.routine code.calls-calls·stages·seek (g-thm.met 𝓤 H 𝓜 𝓖 𝓡))
-    (cited 𝓤 H (tripleOf 𝓤 H (𝓖 .A) h.signature (h.spec 𝓤 H (𝓖 .A) (𝓜 .mem) (𝓡 .run))) 𝓜 𝓡 code.env
-    h-def.name h-def.routine code.calls-calls·stages·enter (h-thm.met 𝓤 H 𝓜 𝓖 𝓡)))
+    (cited 𝓤 H _ 𝓜 𝓡 code.env g.Symbol.name _ code.calls-calls·stages·seek (g.Met.met 𝓤 H 𝓜 𝓖 𝓡))
+    (cited 𝓤 H _ 𝓜 𝓡 code.env h.Symbol.name _ code.calls-calls·stages·enter (h.Met.met 𝓤 H 𝓜 𝓖 𝓡)))

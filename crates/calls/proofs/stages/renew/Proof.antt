@@ -5,23 +5,16 @@ use Rattle.limits.specs.Limits.{records}
 use Rattle.ship.specs.Ship.{blank}
 use Rattle.calls.proofs.Data.{CaseD, CaseL}
 use contract.Running.{givenOf, tables, tablesOf}
-use denote.Triple.Spec.{tripleOf}
 use denote.Triple.Table.{entered, cited}
 use Rattle.walks.proofs.Each.{meets}
 use Rattle.calls.proofs.stages.renewed as g
-use Rattle.calls.proofs.stages.renewed.Symbol as g-def
-use Rattle.calls.proofs.stages.renewed.Met as g-thm
-use Rattle.calls.proofs.stages.renew.Key.{name as #f}
 use Rattle.calls.proofs.stages.renew as f
-use Rattle.calls.proofs.stages.renew.Statement as stated
 use Rattle.calls.proofs.stages.renew.Code as code
 
-pub renew-spec : {M : Type 1} → stated.statement M
+pub renew-spec : {M : Type 1} → f.Statement.statement M
 unfolding code.routine tablesOf
 renew-spec 𝓤 H 𝓜 𝓖 𝓡 =
-    entered 𝓤 H (tripleOf 𝓤 H (𝓖 .A) f.signature (f.spec 𝓤 H (𝓖 .A) (𝓜 .mem) (𝓡 .run)))
-    (tables 𝓤 H 𝓜 𝓡 code.env .C) (tables 𝓤 H 𝓜 𝓡 code.env .Λ) #f code.function (code.unfolded 𝓤 H 𝓜 𝓡)
-    (meets CaseD (λ s c. blank) (λ ys c. length ys ≡ records) 𝓤 H (𝓖 .A) CaseL g-def.name
+    entered 𝓤 H _ (tables 𝓤 H 𝓜 𝓡 code.env .C) (tables 𝓤 H 𝓜 𝓡 code.env .Λ) f.Key.name code.function (code.unfolded 𝓤 H 𝓜 𝓡)
+    (meets CaseD (λ s c. blank) (λ ys c. length ys ≡ records) 𝓤 H (𝓖 .A) CaseL g.Symbol.name
     (givenOf 𝓤 H 𝓜 𝓖) (tablesOf 𝓤 H 𝓜 (tables 𝓤 H 𝓜 𝓡 code.env))
-    (cited 𝓤 H (tripleOf 𝓤 H (𝓖 .A) g.signature (g.spec 𝓤 H (𝓖 .A) (𝓜 .mem) (𝓡 .run))) 𝓜 𝓡 code.env
-    g-def.name g-def.routine code.calls-calls·stages·renewed (g-thm.met 𝓤 H 𝓜 𝓖 𝓡)))
+    (cited 𝓤 H _ 𝓜 𝓡 code.env g.Symbol.name _ code.calls-calls·stages·renewed (g.Met.met 𝓤 H 𝓜 𝓖 𝓡)))
