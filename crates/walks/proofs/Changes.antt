@@ -1,12 +1,7 @@
 -- The records of a list changed one after the other, on lists alone. Assumes nothing.
 --     upto         the first i are changed by g, and the others are as they were
 --     long         so many as before.        one-more     and the next one.        all          at the end each is
-use mathlib.Core.Path.{_≡_, refl, sym, ap, _∙_}
-use Prim.Native.Nat.{ℕ, zero, suc, _+_, _≤_}
-use native.Mathlib.Nat.{not-suc-le-zero, le-of-suc-le-suc}
-use native.Mathlib.Numerals.{add-one}
-use mathlib.Core.List.{List, [], _∷_, map}
-use lib.ListN.{length, set, getD}
+use Rattle.walks.proofs.Words.{_≡_, refl, sym, ap, _∙_, ℕ, zero, suc, _+_, _≤_, not-suc-le-zero, le-of-suc-le-suc, add-one, List, [], _∷_, map, length, set, getD}
 
 module _ {R : Type 0} (g : R → R) where
   abbrev pub upto : ℕ → List R → List R

@@ -1,3 +1,4 @@
+pub mod Words
 pub mod Datum
 pub mod Row
 pub mod Again

@@ -1,13 +1,6 @@
 -- One turn more of a seek: i and what is left still give the whole. Assumes nothing.
-use mathlib.Core.Path.{_≡_, refl, sym, ap, _∙_}
-use mathlib.Core.Bool.{Bool, true, false}
-use Prim.Native.Nat.{ℕ, suc, _+_, _≤_, _<_}
-use native.Mathlib.Nat.{add-zero}
-use native.Mathlib.Numerals.{add-one}
+use Rattle.walks.proofs.Words.{_≡_, refl, sym, ap, _∙_, ℕ, suc, _+_, _≤_, _<_, add-zero, add-one, Bool, true, false, List, [], _∷_, length, getD, behind as drop, drop-of-length-le, drop-cons}
 use native.Mathlib.Omega.{arith}
-use mathlib.Core.List.{List, [], _∷_}
-use lib.ListN.{length, getD, drop, drop-of-length-le}
-use lib.Seq.{drop-cons}
 use Rattle.walks.specs.Swept.{hitOr, sought}
 
 module _ {R : Type 0} (p : R → Bool) where

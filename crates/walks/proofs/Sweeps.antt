@@ -1,10 +1,5 @@
 -- One turn more of a sweep: what is left still gives the whole. Assumes nothing.
-use mathlib.Core.Path.{_≡_, refl, sym, ap, _∙_}
-use Prim.Native.Nat.{ℕ, suc, _+_, _≤_, _<_}
-use native.Mathlib.Numerals.{add-one}
-use mathlib.Core.List.{List, [], _∷_}
-use lib.ListN.{length, getD, drop, drop-of-length-le}
-use lib.Seq.{drop-cons}
+use Rattle.walks.proofs.Words.{_≡_, refl, sym, ap, _∙_, ℕ, suc, _+_, _≤_, _<_, add-one, List, [], _∷_, length, getD, behind as drop, drop-of-length-le, drop-cons}
 use Rattle.walks.specs.Swept.{swept}
 
 module _ {S R : Type 0} (c : S → R → ℕ → S) where

@@ -1,11 +1,8 @@
 -- What is true or false, and nothing at all, as plain types (`Datum.antt`). Assumes nothing.
 --     truth, truth-law     `bool`.        void, void-law      `()`.        is-true, is-false    what a test says
-use mathlib.Core.Path.{_≡_, refl}
-use mathlib.Core.Bool.{Bool, true, false, not}
-use lib.Dec.{T}
-use mir.Syntax.{tyBool, tyUnit}
-use mir.Val.{vbool, vunit}
-use denote.Plain.{Boolean, Nothing, bool-tells, bool-lawful, bool-makes, nothing-tells, nothing-lawful, nothing-makes}
+use Rattle.walks.proofs.Words.{_≡_, refl, Bool, true, false, not, T}
+use Rattle.walks.proofs.Words.{tyBool, tyUnit, vbool, vunit}
+use Rattle.walks.proofs.Words.{Boolean, Nothing, bool-tells, bool-lawful, bool-makes, nothing-tells, nothing-lawful, nothing-makes}
 use Rattle.walks.proofs.Datum.{Datum, Law}
 
 abbrev pub truth : Datum
