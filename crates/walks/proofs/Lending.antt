@@ -1,30 +1,16 @@
 -- A call of any function that takes a `&mut [T]` first, any further plain parameters and gives a plain result, as one step of a walk: a `&mut [T]` is lent again
 -- to it for a lifetime of the call (`Again.antt`), and comes back at the list that it has left. The call may be followed by more, or be the last of its part.
 --     lending, clauses, TheLent        its signature and contract: it needs `Need`, and says `Says` of its parameters, its result, and the list that it leaves
---     lends-at, lends-last             the step.        unit, unit-law   `()` as a plain type.        truth, truth-law     `bool` as one
+--     lends-at, lends-last             the step
 -- Assumes `Given`.
-use Rattle.walks.proofs.Words.{_≡_, ℕ, Bool, List, [], _∷_, length}
+use Rattle.walks.proofs.Words.{_≡_, ℕ, List, [], _∷_, length}
 use Rattle.walks.proofs.Words.{URA, fullShare, ent, emp, sep, id⊢, Lft, GName, Share, Fml, ftrue, flft, Heap, Env, Calls, Loops, Atoms, sem, Lfts, fact, FmC}
-use Rattle.walks.proofs.Words.{Name, Lifetime, named, Place, Operand, MBody, tyBool, tyUnit, seq, call, Val, vunit, vbool}
+use Rattle.walks.proofs.Words.{Name, Lifetime, named, Place, Operand, MBody, seq, call, Val}
 use Rattle.walks.proofs.Words.{Given, Go, Goal, Soaks, Item, ‵, raw, some, later, _⊛_, Post, runs, lands, settles, Sq, _$_, _∵_, !, qed, move, drop, use0, use1, use2, use3, split, join, pick, fsplit, fjoin, feqL, frame, await, done, Opds, lft-new, lft-end}
-use Rattle.walks.proofs.Words.{yes, RattleType, Denots, Valss, owns, Is, shows, Boolean, bool-tells, bool-lawful, bool-makes, Nothing, nothing-tells, nothing-lawful, nothing-makes, RefT, now, Slot, plain, mutSliceOf}
-use Rattle.walks.proofs.Words.{typesAt, sliceVal, MutSlice, Room, facts, heard, nothing, calls-at, calls-at-last, Contract, Triple, tripleOf, Clauses, Ended, Lasts, ensured, lasts, closing, says}
-use Rattle.walks.proofs.Datum.{Datum, row, Law}
+use Rattle.walks.proofs.Words.{yes, RattleType, Denots, Valss, owns, Is, shows, RefT, now, Slot, plain, mutSliceOf, typesAt, sliceVal, MutSlice, Room, facts, heard, nothing, calls-at, calls-at-last, Contract, Triple, tripleOf, Clauses, Ended, Lasts, ensured, lasts, closing, says}
+use Rattle.walks.proofs.Datum.{Datum, row}
 use Rattle.walks.proofs.Again.{Kept, lends, comes-back}
 use Rattle.walks.proofs.Asking.{keeps}
-
--- ---- two more plain types
-abbrev pub unit : Datum
-unit = record { D = Unit {0}; ty = tyUnit; wr = Nothing .written; rs = Nothing .reaches; owns′ = Nothing .own; cd = Nothing .coded }
-
-abbrev pub unit-law : Law unit
-unit-law = record { val = λ _. vunit; tells = nothing-tells; law = λ 𝓤 H A W. nothing-lawful 𝓤 H A W; make = λ 𝓤 H A W. nothing-makes 𝓤 H A W }
-
-abbrev pub truth : Datum
-truth = record { D = Bool; ty = tyBool; wr = Boolean .written; rs = Boolean .reaches; owns′ = Boolean .own; cd = Boolean .coded }
-
-abbrev pub truth-law : Law truth
-truth-law = record { val = vbool; tells = bool-tells; law = λ 𝓤 H A W. bool-lawful 𝓤 H A W; make = λ 𝓤 H A W. bool-makes 𝓤 H A W }
 
 -- ---- the contract
 abbrev pub lending : RattleType → List (Slot 1) → Datum → Ended

@@ -1,3 +1,4 @@
+pub mod Locals
 pub mod Words
 pub mod Datum
 pub mod Row
@@ -13,7 +14,6 @@ pub mod Update
 pub mod Changes
 pub mod Each
 pub mod Lending
-pub mod WalkingCode
 pub mod Walking
 pub mod Sweeps
 pub mod Sweeping
@@ -24,7 +24,6 @@ pub mod Seconds
 pub mod Stage
 pub mod Then
 pub mod Either
-pub mod Writing
 pub mod First
 pub mod Leaf
 pub mod Reading

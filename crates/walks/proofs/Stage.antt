@@ -8,10 +8,11 @@
 -- Assumes `Given`.
 use Rattle.walks.proofs.Words.{_≡_, refl, ℕ, List, [], _∷_, length}
 use Rattle.walks.proofs.Words.{URA, fullShare, SProp, ent, sep, id⊢, Lft, Share, GName, Fml, ftrue, flft, Heap, Env, Calls, Loops, WpFn, Tables, Atoms, sem, fact, FmC, WpFn-mono}
-use Rattle.walks.proofs.Words.{Name, Ty, Fn, MBody, named, erased, mut, w16, tyInt, tyRef, seq, call, Place, Operand, Val}
-use Rattle.walks.proofs.Words.{Given, Item, lands, ‵, raw, some, later, _⊛_, ⋆, Go, Post as Goes, runs, Sq, _$_, _∵_, !, qed, move, drop, use1, use2, use3, split, join, pick, fsplit, fjoin, feqL, suffices, frame, await, done, Opds, lft-new, lft-end}
+use Rattle.walks.proofs.Words.{Name, Ty, Fn, MBody, named, erased, mut, w16, tyInt, tyRef, seq, call, Place, Operand, Local, imm, Val}
+use Rattle.walks.proofs.Words.{Given, Item, lands, ‵, raw, some, later, _⊛_, ⋆, Go, Post as Goes, runs, Sq, _$_, _∵_, !, qed, move, drop, use1, use2, use3, split, join, pick, fsplit, fjoin, feqL, suffices, frame, await, done, atRet, Opds, init, enter, params1, pass1, pass0, lft-new, lft-end}
 use Rattle.walks.proofs.Words.{yes, Is, shows, pointee, u16, RefT, now, sliceTy, sliceVal, MutSlice, Room, slice-vals, mut-slice-tells, plain, mutSliceOf, owned, facts, heard, nothing, calls-at, Vals, onEntry, Contract, Triple}
-use Rattle.walks.proofs.Words.{Meets, tripleOf, Clauses, Ended, ensured, lasts, closing, says, needs, Stays, stay-slice, stay-dropped, walkOf, Walks, ends-at, walked, goes-slice, goes-dropped, walk-meets, Station}
+use Rattle.walks.proofs.Words.{Meets, tripleOf, Clauses, Ended, ensured, lasts, closing, says, needs, Stays, stay-slice, stay-dropped, walkOf, Walks, ends-at, walked, goes-slice, goes-dropped, walk-meets, Station, owns}
+use Rattle.walks.proofs.Locals.{values, Lies, bare, has, Places, placed, lies, opens, locals-last, locals-first}
 use Rattle.walks.proofs.Datum.{Datum, row, Law}
 use Rattle.walks.proofs.Row.{R}
 use Rattle.walks.proofs.Again.{Kept, lends, comes-back}
@@ -38,6 +39,26 @@ bookAt = tyRef erased mut (tyInt w16)
 
 abbrev pub bookAgain : Ty
 bookAgain = sliceTy (tyRef erased mut (tyInt w16))
+
+-- and what is lent to be looked at
+abbrev pub regEye : Ty
+regEye = tyRef erased imm stations
+
+abbrev pub regSeen : Ty
+regSeen = sliceTy (tyRef erased imm stations)
+
+abbrev pub bookEye : Ty
+bookEye = tyRef erased imm (tyInt w16)
+
+abbrev pub bookSeen : Ty
+bookSeen = sliceTy (tyRef erased imm (tyInt w16))
+
+-- f's locals are its answer, its parameters, and any others
+abbrev pub locals : Datum → Datum → List Ty → List Local
+locals X Y more = values (Y .ty ∷ regTy ∷ bookTy ∷ X .ty ∷ more)
+
+abbrev pub stage : Datum → Datum → List Ty → MBody → Fn
+stage X Y more body = record { lifetimes = 2; outlives = []; params = 3; locals = locals X Y more; body = body }
 
 -- ---- the contract
 abbrev pub ended : Datum → Datum → Ended
@@ -71,101 +92,150 @@ module _ (X Y : Datum) (Need : Needs X) (T : Says X Y) {M : Type 1} (𝓤 : URA 
   abbrev pub TheStage : Contract 𝓤
   TheStage = tripleOf 𝓤 H A (ended X Y .signature) (closing 𝓤 H A (ended X Y) clauses)
 
--- ---- a register and a book that are held
-module _ (κ : Lft) (b o : ℕ) (γ : GName) (n : ℕ) (κ₁ : Lft) (b₁ o₁ : ℕ) (γ₁ : GName) (n₁ : ℕ) where
+-- ---- a register and a book that are held: for how long, by what share, where, and what they held at first
+pub record Two : Type 0 where
+  pub κ : Lft
+  pub q : Share
+  pub b : ℕ
+  pub o : ℕ
+  pub γ : GName
+  pub ys : List Station
+  pub room : Room R (length ys)
+  pub κ₁ : Lft
+  pub q₁ : Share
+  pub b₁ : ℕ
+  pub o₁ : ℕ
+  pub γ₁ : GName
+  pub bs : List ℕ
+  pub room₁ : Room u16 (length bs)
+
+abbrev pub two : Lft → Share → (a : RefT (List Station)) → Room R (length (a .now)) → Lft → Share → (c : RefT (List ℕ)) → Room u16 (length (c .now)) → Two
+two κ q a g κ₁ q₁ c g₁ = record {
+  κ = κ;
+  q = q;
+  b = a .ptr .0;
+  o = a .ptr .1;
+  γ = a .name;
+  ys = a .now;
+  room = g;
+  κ₁ = κ₁;
+  q₁ = q₁;
+  b₁ = c .ptr .0;
+  o₁ = c .ptr .1;
+  γ₁ = c .name;
+  bs = c .now;
+  room₁ = g₁;
+}
+
+module _ (t : Two) where
+  abbrev pub v : Val
+  v = sliceVal (t .b, t .o) (length (t .ys))
+
+  abbrev pub v₁ : Val
+  v₁ = sliceVal (t .b₁, t .o₁) (length (t .bs))
+
   abbrev pub Reg : List Station → Fml
-  Reg zs = MutSlice (named 0) κ R .own (record { ptr = (b, o); name = γ; now = zs }) (sliceVal (b, o) n ∷ [])
+  Reg zs = MutSlice (named 0) (t .κ) R .own (record { ptr = (t .b, t .o); name = t .γ; now = zs }) (v ∷ [])
 
   abbrev pub Book : List ℕ → Fml
-  Book cs = MutSlice (named 1) κ₁ u16 .own (record { ptr = (b₁, o₁); name = γ₁; now = cs }) (sliceVal (b₁, o₁) n₁ ∷ [])
+  Book cs = MutSlice (named 1) (t .κ₁) u16 .own (record { ptr = (t .b₁, t .o₁); name = t .γ₁; now = cs }) (v₁ ∷ [])
+
+  -- with their tokens
+  abbrev pub Holds : {M : Type 1} {𝓤 : URA M} → List Station → List ℕ → List (Item 𝓤) → List (Item 𝓤)
+  Holds zs cs Γ = ‵ (Reg zs) ∷ ‵ (flft (t .κ) (t .q)) ∷ ‵ (Book cs) ∷ ‵ (flft (t .κ₁) (t .q₁)) ∷ Γ
 
 -- ---- a walk of a stage
 module _ (X : Datum) (XL : Law X) (Y : Datum) (YL : Law Y) (Need : Needs X) (T : Says X Y) {M : Type 1} (𝓤 : URA M) (H : Heap 𝓤) (A : Atoms 𝓤) (W : Given 𝓤 H A) where
-  module _ (κ : Lft) (q : Share) (b o : ℕ) (γ : GName) (ys : List Station) (κ₁ : Lft) (q₁ : Share) (b₁ o₁ : ℕ) (γ₁ : GName) (bs : List ℕ) (x : X .D) where
+  module _ (t : Two) (x : X .D) where
     abbrev Arg : Type 0
     Arg = RefT (List Station) × (RefT (List ℕ) × (X .D × Unit {0}))
 
-    abbrev pub args : Arg
-    args = (record { ptr = (b, o); name = γ; now = ys }, (record { ptr = (b₁, o₁); name = γ₁; now = bs }, (x, tt)))
+    abbrev args : Arg
+    args = (record { ptr = (t .b, t .o); name = t .γ; now = t .ys }, (record { ptr = (t .b₁, t .o₁); name = t .γ₁; now = t .bs }, (x, tt)))
 
-    abbrev pub at : Vals (ended X Y .signature) (κ, (κ₁, tt))
-    at = (sliceVal (b, o) (length ys) ∷ [], (sliceVal (b₁, o₁) (length bs) ∷ [], (XL .val x ∷ [], tt)))
+    abbrev at : Vals (ended X Y .signature) (t .κ, (t .κ₁, tt))
+    at = (v t ∷ [], (v₁ t ∷ [], (XL .val x ∷ [], tt)))
 
     abbrev pub Post : Val → SProp 𝓤
-    Post = walkOf 𝓤 H A (ended X Y) (stayed X Y) (clauses X Y Need T 𝓤 H A) .post (((κ, (κ₁, tt)), (q, (q₁, tt)), tt, args, at), tt)
+    Post = walkOf 𝓤 H A (ended X Y) (stayed X Y) (clauses X Y Need T 𝓤 H A) .post (((t .κ, (t .κ₁, tt)), (t .q, (t .q₁, tt)), tt, args, at), tt)
 
-    -- a walk of f
-    abbrev pub Walk : Calls 𝓤 H → Loops 𝓤 H → Fn → Type 1
-    Walk C Λ f = ent 𝓤 (onEntry 𝓤 H A (ended X Y .signature) (κ, (κ₁, tt)) (q, (q₁, tt)) args at)
-        (WpFn 𝓤 H C Λ f (sliceVal (b, o) (length ys) ∷ sliceVal (b₁, o₁) (length bs) ∷ XL .val x ∷ []) Post)
-
-    pub exits : (r : Y .D) (y : Val) (zs : List Station) (cs : List ℕ) → Is (row Y) r (y ∷ []) → length zs ≡ length ys → length cs ≡ length bs → T x ys bs r zs cs
-        → ent 𝓤 (⋆ 𝓤 H A (‵ (Reg κ b o γ (length ys) κ₁ b₁ o₁ γ₁ (length bs) zs) ∷ ‵ (flft κ q) ∷ ‵ (Book κ b o γ (length ys) κ₁ b₁ o₁ γ₁ (length bs) cs) ∷ ‵ (flft κ₁ q₁)
-        ∷ [])) (Post y)
+    pub exits : (r : Y .D) (y : Val) (zs : List Station) (cs : List ℕ) → Is (row Y) r (y ∷ []) → length zs ≡ length (t .ys) → length cs ≡ length (t .bs)
+        → T x (t .ys) (t .bs) r zs cs → ent 𝓤 (⋆ 𝓤 H A (Holds t zs cs [])) (Post y)
     exits r y zs cs gr lz lc e =
-        qed W (‵ (Reg κ b o γ (length ys) κ₁ b₁ o₁ γ₁ (length bs) zs) ∷ ‵ (flft κ q) ∷ ‵ (Book κ b o γ (length ys) κ₁ b₁ o₁ γ₁ (length bs) cs) ∷ ‵ (flft κ₁ q₁) ∷ []) ∵
-        suffices ! _ (ends-at 𝓤 H A (ended X Y) (stayed X Y) (clauses X Y Need T 𝓤 H A) W (((κ, (κ₁, tt)), (q, (q₁, tt)), tt, args, at), tt) y r (zs, (cs, (tt, tt)))
-        (lz, (lc, (tt, tt)))) $ says ! e $
+        qed W (Holds t zs cs []) ∵
+        suffices ! _ (ends-at 𝓤 H A (ended X Y) (stayed X Y) (clauses X Y Need T 𝓤 H A) W (((t .κ, (t .κ₁, tt)), (t .q, (t .q₁, tt)), tt, args, at), tt) y r
+        (zs, (cs, (tt, tt))) (lz, (lc, (tt, tt)))) $ says ! e $
         nothing ! $ move ! (4 ∷ 0 ∷ []) $ join ! $ move ! (2 ∷ 0 ∷ []) $ join ! $ frame ! $ nothing ! $ nothing ! $ fjoin ! $
         move ! (2 ∷ 0 ∷ []) $ fjoin ! $ move ! (1 ∷ 0 ∷ []) $ fjoin ! $ frame ! $
         owned ! (row Y) (Is (row Y)) (YL .make 𝓤 H A W) r (y ∷ []) gr $ done !
 
-  module _ (𝓣 : Tables 𝓤 H) (f : Fn) (walk : (κ : Lft) (q : Share) (b o : ℕ) (γ : GName) (ys : List Station) (κ₁ : Lft) (q₁ : Share) (b₁ o₁ : ℕ) (γ₁ : GName) (bs : List ℕ)
-      (x : X .D) → Room R (length ys) → Room u16 (length bs) → Is (row X) x (XL .val x ∷ []) → Need ys bs x → Walk κ q b o γ ys κ₁ q₁ b₁ o₁ γ₁ bs x (𝓣 .C) (𝓣 .Λ) f) where
-    walks : Walks 𝓤 H A (ended X Y) (stayed X Y) (WpFn 𝓤 H (𝓣 .C) (𝓣 .Λ) f) (clauses X Y Need T 𝓤 H A)
-    walks = walked 𝓤 H A (ended X Y) (stayed X Y) (clauses X Y Need T 𝓤 H A) (WpFn 𝓤 H (𝓣 .C) (𝓣 .Λ) f) (λ κs. (slice-vals, (slice-vals, ((λ x. XL .val x ∷ []), tt))))
+    module _ (C : Calls 𝓤 H) (Λ : Loops 𝓤 H) (more : List Ty) (body : MBody) where
+      abbrev Passed : List Lies
+      Passed = bare ∷ has (v t) ∷ has (v₁ t) ∷ has (XL .val x) ∷ []
+
+      -- a run of f's body, from where it has what it is lent, and its locals
+      abbrev pub Runs : Type 1
+      Runs = (l : Places (locals X Y more)) → Sq W (Holds t (t .ys) (t .bs) (lies (placed (locals X Y more) l) Passed []))
+          (runs C Λ (placed (locals X Y more) l) body (atRet (placed (locals X Y more) l) Post))
+
+      begins : Is (row X) x (XL .val x ∷ []) → Runs → ent 𝓤 (onEntry 𝓤 H A (ended X Y .signature) (t .κ, (t .κ₁, tt)) (t .q, (t .q₁, tt)) args at)
+          (WpFn 𝓤 H C Λ (stage X Y more body) (v t ∷ v₁ t ∷ XL .val x ∷ []) Post)
+      begins gx k =
+          qed W (Both ∷ Had ∷ []) ∵ enter ! C Λ (stage X Y more body) (v t ∷ v₁ t ∷ XL .val x ∷ []) _ $
+          opens ! (λ l. locals-last ! (placed (values more) (l .1 .1 .1 .1)) [] (lies (placed (locals X Y []) (l .0, (l .1 .0, (l .1 .1 .0, (l .1 .1 .1 .0, tt))))) [] (Both ∷ Had ∷ [])) $
+          params1 ! $ pass1 ! (init ! 4 refl (tt, (tt, (record { fits = t .room .0 }, tt)))) $ pass1 ! (init ! 2 refl (tt, (tt, (record { fits = t .room₁ .0 }, tt)))) $
+          pass1 ! (init ! 0 refl (XL .law 𝓤 H A W .typed x _ gx .0)) $ pass0 ! $
+          -- [_3; …; _0; the tokens; what is owned; the others]
+          move ! (9 ∷ []) $ fsplit ! $ move ! (1 ∷ []) $ fsplit ! $ move ! (1 ∷ []) $ drop ! $ move ! (10 ∷ []) $ split ! $ move ! (1 ∷ []) $ split ! $ move ! (1 ∷ []) $ drop ! $
+          move ! (4 ∷ 5 ∷ 6 ∷ 7 ∷ 8 ∷ 9 ∷ 10 ∷ 11 ∷ 3 ∷ 1 ∷ 2 ∷ 0 ∷ []) $
+          locals-first ! (placed (values more) (l .1 .1 .1 .1)) [] (lies (placed (locals X Y []) (l .0, (l .1 .0, (l .1 .1 .0, (l .1 .1 .1 .0, tt))))) Passed (Holds t (t .ys) (t .bs) [])) $
+          locals-last ! (placed (locals X Y more) l) Passed (Holds t (t .ys) (t .bs) []) $ k l)
+        where
+          Both : Item 𝓤
+          Both = ‵ (flft (t .κ) (t .q)) ⊛ ‵ (flft (t .κ₁) (t .q₁)) ⊛ ‵ ftrue
+
+          Had : Item 𝓤
+          Had = ‵ (owns (MutSlice (named 0) (t .κ) R ∷ MutSlice (named 1) (t .κ₁) u16 ∷ row X ∷ []) args at)
+
+  module _ (𝓣 : Tables 𝓤 H) (more : List Ty) (body : MBody)
+      (walk : (t : Two) (x : X .D) → Is (row X) x (XL .val x ∷ []) → Need (t .ys) (t .bs) x → Runs t x (𝓣 .C) (𝓣 .Λ) more body) where
+    walks : Walks 𝓤 H A (ended X Y) (stayed X Y) (WpFn 𝓤 H (𝓣 .C) (𝓣 .Λ) (stage X Y more body)) (clauses X Y Need T 𝓤 H A)
+    walks = walked 𝓤 H A (ended X Y) (stayed X Y) (clauses X Y Need T 𝓤 H A) (WpFn 𝓤 H (𝓣 .C) (𝓣 .Λ) (stage X Y more body))
+        (λ κs. (slice-vals, (slice-vals, ((λ x. XL .val x ∷ []), tt))))
         (λ κs. (mut-slice-tells (named 0) (κs .0) R, (mut-slice-tells (named 1) (κs .1 .0) u16, (XL .tells, tt))))
         (λ κs qs bounds a g are. needs 𝓤 (Need (now (a .0)) (now (a .1 .0)) (a .1 .1 .0)) _ (λ ok.
-        walk (κs .0) (qs .0) (a .0 .ptr .0) (a .0 .ptr .1) (a .0 .name) (a .0 .now) (κs .1 .0) (qs .1 .0) (a .1 .0 .ptr .0) (a .1 .0 .ptr .1) (a .1 .0 .name) (a .1 .0 .now)
-        (a .1 .1 .0) (are .0 .0 .1) (are .1 .0 .0 .1) (are .1 .1 .0) ok))
+        let t : Two = two (κs .0) (qs .0) (a .0) (are .0 .0 .1) (κs .1 .0) (qs .1 .0) (a .1 .0) (are .1 .0 .0 .1) in
+        begins t (a .1 .1 .0) (𝓣 .C) (𝓣 .Λ) more body (are .1 .1 .0) (walk t (a .1 .1 .0) (are .1 .1 .0) ok)))
 
-    pub meets-by : Meets 𝓤 H A (ended X Y .signature) (WpFn 𝓤 H (𝓣 .C) (𝓣 .Λ) f) (closing 𝓤 H A (ended X Y) (clauses X Y Need T 𝓤 H A))
+    pub meets-by : Meets 𝓤 H A (ended X Y .signature) (WpFn 𝓤 H (𝓣 .C) (𝓣 .Λ) (stage X Y more body)) (closing 𝓤 H A (ended X Y) (clauses X Y Need T 𝓤 H A))
     meets-by =
-        walk-meets 𝓤 H A (ended X Y) (stayed X Y) W (
-          goes-slice 𝓤 H A W 2 0 tt (plain (λ _. R)),
-          (
-            goes-slice 𝓤 H A W 2 1 tt (plain (λ _. u16)),
-            (goes-dropped 𝓤 H A W 2 (plain (λ _. row X)) yes (λ κs x f. refl), tt),
-          ),
-        )
-        (clauses X Y Need T 𝓤 H A) (WpFn 𝓤 H (𝓣 .C) (𝓣 .Λ) f) (WpFn-mono 𝓤 H (W .laws) 𝓣 f) walks
+        walk-meets 𝓤 H A (ended X Y) (stayed X Y) W
+        (goes-slice 𝓤 H A W 2 0 tt (plain (λ _. R)), (goes-slice 𝓤 H A W 2 1 tt (plain (λ _. u16)), (goes-dropped 𝓤 H A W 2 (plain (λ _. row X)) yes (λ κs x f. refl), tt)))
+        (clauses X Y Need T 𝓤 H A) (WpFn 𝓤 H (𝓣 .C) (𝓣 .Λ) (stage X Y more body)) (WpFn-mono 𝓤 H (W .laws) 𝓣 (stage X Y more body)) walks
 
 -- ---- a call of a stage
-module _ (X : Datum) (XL : Law X) (Y : Datum) (Need : Needs X) (T : Says X Y) (#g : Name) {M : Type 1} (𝓤 : URA M) (H : Heap 𝓤) (A : Atoms 𝓤) (W : Given 𝓤 H A)
-    (κ : Lft) (q : Share) (b o : ℕ) (γ : GName) (n : ℕ) (κ₁ : Lft) (q₁ : Share) (b₁ o₁ : ℕ) (γ₁ : GName) (n₁ : ℕ) (gn : Room R n) (g₁ : Room u16 n₁) where
-  abbrev v : Val
-  v = sliceVal (b, o) n
-
-  abbrev v₁ : Val
-  v₁ = sliceVal (b₁, o₁) n₁
-
-  abbrev Regs : List Station → Fml
-  Regs zs = Reg κ b o γ n κ₁ b₁ o₁ γ₁ n₁ zs
-
-  abbrev Books : List ℕ → Fml
-  Books cs = Book κ b o γ n κ₁ b₁ o₁ γ₁ n₁ cs
-
+module _ (X : Datum) (XL : Law X) (Y : Datum) (Need : Needs X) (T : Says X Y) (#g : Name) {M : Type 1} (𝓤 : URA M) (H : Heap 𝓤) (A : Atoms 𝓤) (W : Given 𝓤 H A) (t : Two) where
   -- for the call
   abbrev Reg′ : List Station → ℕ → GName → Fml
-  Reg′ zs ν δ = MutSlice (named 0) (ν ∷ []) R .own (record { ptr = (b, o); name = δ; now = zs }) (v ∷ [])
+  Reg′ zs ν δ = MutSlice (named 0) (ν ∷ []) R .own (record { ptr = (t .b, t .o); name = δ; now = zs }) (v t ∷ [])
 
   abbrev Book′ : List ℕ → ℕ → GName → Fml
-  Book′ cs μ ε = MutSlice (named 1) (μ ∷ []) u16 .own (record { ptr = (b₁, o₁); name = ε; now = cs }) (v₁ ∷ [])
+  Book′ cs μ ε = MutSlice (named 1) (μ ∷ []) u16 .own (record { ptr = (t .b₁, t .o₁); name = ε; now = cs }) (v₁ t ∷ [])
 
   abbrev pub KeptR : List Station → ℕ → GName → Fml
-  KeptR zs ν δ = Kept R κ (ν ∷ []) q γ b o n zs δ
+  KeptR zs ν δ = Kept R (t .κ) (ν ∷ []) (t .q) (t .γ) (t .b) (t .o) (length (t .ys)) zs δ
 
   abbrev pub KeptB : List ℕ → ℕ → GName → Fml
-  KeptB cs μ ε = Kept u16 κ₁ (μ ∷ []) q₁ γ₁ b₁ o₁ n₁ cs ε
+  KeptB cs μ ε = Kept u16 (t .κ₁) (μ ∷ []) (t .q₁) (t .γ₁) (t .b₁) (t .o₁) (length (t .bs)) cs ε
 
   abbrev GArg : Type 0
   GArg = RefT (List Station) × (RefT (List ℕ) × (X .D × Unit {0}))
 
   abbrev ga : X .D → List Station → List ℕ → GName → GName → GArg
-  ga x zs cs δ ε = (record { ptr = (b, o); name = δ; now = zs }, (record { ptr = (b₁, o₁); name = ε; now = cs }, (x, tt)))
+  ga x zs cs δ ε = (record { ptr = (t .b, t .o); name = δ; now = zs }, (record { ptr = (t .b₁, t .o₁); name = ε; now = cs }, (x, tt)))
 
   abbrev pub to-g : X .D → Val → List Station → List ℕ → ℕ → ℕ → GName → GName → TheStage X Y Need T 𝓤 H A .Ghost
-  to-g x u zs cs ν μ δ ε = (((ν ∷ [], (μ ∷ [], tt)), (fullShare, (fullShare, tt)), tt, ga x zs cs δ ε, (v ∷ [], (v₁ ∷ [], (u ∷ [], tt)))), tt)
+  to-g x u zs cs ν μ δ ε = (((ν ∷ [], (μ ∷ [], tt)), (fullShare, (fullShare, tt)), tt, ga x zs cs δ ε, (v t ∷ [], (v₁ t ∷ [], (u ∷ [], tt)))), tt)
 
   module _ (x : X .D) (u : Val) (zs : List Station) (cs : List ℕ) (is : Is (row X) x (u ∷ [])) (ok : Need zs cs x) where
     goes : (ν μ : ℕ) (δ ε : GName) → ent 𝓤 (sep 𝓤 (sep 𝓤 (A .lft (ν ∷ []) fullShare) (A .lft (μ ∷ []) fullShare)) (sep 𝓤 (sem 𝓤 H A (Reg′ zs ν δ)) (sem 𝓤 H A (Book′ cs μ ε))))
@@ -175,22 +245,21 @@ module _ (X : Datum) (XL : Law X) (Y : Datum) (Need : Needs X) (T : Says X Y) (#
         nothing ! $ owned ! (row X) (Is (row X)) (XL .make 𝓤 H A W) x (u ∷ []) is $ fjoin ! $ move ! (2 ∷ 0 ∷ []) $ fjoin ! $ move ! (1 ∷ 0 ∷ []) $ fjoin ! $
         nothing ! $ move ! (3 ∷ 0 ∷ []) $ join ! $ move ! (2 ∷ 0 ∷ []) $ join ! $ frame ! $ done !
 
-    module _ (lz : length zs ≡ n) (lc : length cs ≡ n₁) {C : Calls 𝓤 H} {Λ : Loops 𝓤 H} {En : Env 𝓤 H} {xs : List Operand} {d : Place} {rest : MBody} {p : Goes 𝓤 H}
-        {Γ : List (Item 𝓤)} where
+    module _ (lz : length zs ≡ length (t .ys)) (lc : length cs ≡ length (t .bs)) {C : Calls 𝓤 H} {Λ : Loops 𝓤 H} {En : Env 𝓤 H} {xs : List Operand} {d : Place} {rest : MBody}
+        {p : Goes 𝓤 H} {Γ : List (Item 𝓤)} where
       pub called : FmC 𝓤 H (W .laws) C → Triple 𝓤 (C #g) (TheStage X Y Need T 𝓤 H A)
-          → ((ν μ : ℕ) (δ ε : GName) → Opds Go W (raw (TheStage X Y Need T 𝓤 H A .pre (to-g x u zs cs ν μ δ ε)) ∷ ‵ (KeptB cs μ ε) ∷ ‵ (KeptR zs ν δ) ∷ Γ) En xs (v ∷ v₁
-          ∷ u ∷ []))
+          → ((ν μ : ℕ) (δ ε : GName) → Opds Go W (raw (TheStage X Y Need T 𝓤 H A .pre (to-g x u zs cs ν μ δ ε)) ∷ ‵ (KeptB cs μ ε) ∷ ‵ (KeptR zs ν δ) ∷ Γ) En xs
+          (v t ∷ v₁ t ∷ u ∷ []))
           → ((r : Y .D) (y : Val) (zs′ : List Station) (cs′ : List ℕ) → T x zs cs r zs′ cs′ → Is (row Y) r (y ∷ []) → length zs′ ≡ length zs → length cs′ ≡ length cs
-          → Sq W (‵ (Regs zs′) ∷ ‵ (flft κ q) ∷ ‵ (Books cs′) ∷ ‵ (flft κ₁ q₁) ∷ Γ) (lands C Λ En d y rest p))
-          → Sq W (‵ (Regs zs) ∷ ‵ (flft κ q) ∷ ‵ (Books cs) ∷ ‵ (flft κ₁ q₁) ∷ Γ) (runs C Λ En (seq (call #g xs d) rest) p)
+          → Sq W (Holds t zs′ cs′ Γ) (lands C Λ En d y rest p))
+          → Sq W (Holds t zs cs Γ) (runs C Λ En (seq (call #g xs d) rest) p)
       called fm known os′ k =
           lft-new ! tt (λ ν. lft-new ! tt (λ μ.
           -- [μ; ν; the register; κ; the book; κ₁; …]
-          move ! (2 ∷ 3 ∷ []) $ use2 W (later (some (λ (δ : GName). ‵ (Reg′ zs ν δ) ⊛ ‵ (KeptR zs ν δ)))) (lends R κ (ν ∷ []) q γ b o n zs 𝓤 H A W (named 0) (named 0)) $
-          await ! tt $ pick ! (λ δ. split ! $
-          move ! (4 ∷ 5 ∷ []) $ use2 W (later (some (λ (ε : GName). ‵ (Book′ cs μ ε) ⊛ ‵ (KeptB cs μ ε)))) (lends u16 κ₁ (μ ∷ []) q₁ γ₁ b₁ o₁ n₁ cs 𝓤 H A W (named 1)
-          (named 1)) $
-          await ! tt $ pick ! (λ ε. split ! $
+          move ! (2 ∷ 3 ∷ []) $ use2 W (later (some (λ (δ : GName). ‵ (Reg′ zs ν δ) ⊛ ‵ (KeptR zs ν δ))))
+          (lends R (t .κ) (ν ∷ []) (t .q) (t .γ) (t .b) (t .o) (length (t .ys)) zs 𝓤 H A W (named 0) (named 0)) $ await ! tt $ pick ! (λ δ. split ! $
+          move ! (4 ∷ 5 ∷ []) $ use2 W (later (some (λ (ε : GName). ‵ (Book′ cs μ ε) ⊛ ‵ (KeptB cs μ ε))))
+          (lends u16 (t .κ₁) (μ ∷ []) (t .q₁) (t .γ₁) (t .b₁) (t .o₁) (length (t .bs)) cs 𝓤 H A W (named 1) (named 1)) $ await ! tt $ pick ! (λ ε. split ! $
           -- [the book; what is kept of it; the register; what is kept of it; μ; ν; …]
           move ! (5 ∷ 4 ∷ []) $ join ! $ move ! (3 ∷ 1 ∷ []) $ join ! $ move ! (1 ∷ 0 ∷ []) $
           use2 W (raw (TheStage X Y Need T 𝓤 H A .pre (to-g x u zs cs ν μ δ ε))) (goes ν μ δ ε) $
@@ -204,8 +273,8 @@ module _ (X : Datum) (XL : Law X) (Y : Datum) (Need : Needs X) (T : Says X Y) (#
           facts ! (row Y) (Is (row Y)) (shows 𝓤 H A (row Y)) r (y ∷ []) (λ isr. split ! $ move ! (1 ∷ []) $ split ! $ move ! (1 ∷ []) $ drop ! $ lft-end ! tt $
           move ! (1 ∷ []) $ lft-end ! tt $
           -- [†ν; †μ; the last book; the last register; what is kept of the book; of the register; …]
-          move ! (0 ∷ 5 ∷ 3 ∷ []) $ use3 W (later (‵ (Regs (ws .0)) ⊛ ‵ (flft κ q))) (comes-back R κ (ν ∷ []) q γ b o n zs 𝓤 H A W (named 0) (named 0) δ (ws .0) lz′ lz gn) $
-          await ! tt $ split ! $
-          move ! (2 ∷ 4 ∷ 3 ∷ []) $ use3 W (later (‵ (Books (ws .1 .0)) ⊛ ‵ (flft κ₁ q₁)))
-          (comes-back u16 κ₁ (μ ∷ []) q₁ γ₁ b₁ o₁ n₁ cs 𝓤 H A W (named 1) (named 1) ε (ws .1 .0) lc′ lc g₁) $ await ! tt $ split ! $
-          move ! (2 ∷ 3 ∷ 0 ∷ 1 ∷ []) $ k r y (ws .0) (ws .1 .0) e isr lz′ lc′)))))))))))
+          move ! (0 ∷ 5 ∷ 3 ∷ []) $ use3 W (later (‵ (Reg t (ws .0)) ⊛ ‵ (flft (t .κ) (t .q))))
+          (comes-back R (t .κ) (ν ∷ []) (t .q) (t .γ) (t .b) (t .o) (length (t .ys)) zs 𝓤 H A W (named 0) (named 0) δ (ws .0) lz′ lz (t .room)) $ await ! tt $ split ! $
+          move ! (2 ∷ 4 ∷ 3 ∷ []) $ use3 W (later (‵ (Book t (ws .1 .0)) ⊛ ‵ (flft (t .κ₁) (t .q₁))))
+          (comes-back u16 (t .κ₁) (μ ∷ []) (t .q₁) (t .γ₁) (t .b₁) (t .o₁) (length (t .bs)) cs 𝓤 H A W (named 1) (named 1) ε (ws .1 .0) lc′ lc (t .room₁)) $
+          await ! tt $ split ! $ move ! (2 ∷ 3 ∷ 0 ∷ 1 ∷ []) $ k r y (ws .0) (ws .1 .0) e isr lz′ lc′)))))))))))

@@ -4,34 +4,25 @@
 --     function     f's MIR.        meets        f meets its contract, from those of g and h
 -- Assumes `Given`.
 use Rattle.walks.proofs.Words.{_≡_, refl, _∙_, ℕ, List, [], _∷_, length}
-use Rattle.walks.proofs.Words.{URA, Lft, Share, GName, ftrue, flft, Heap, Calls, Loops, WpFn, Tables, Atoms, FmC, fmOf}
-use Rattle.walks.proofs.Words.{Name, Fn, named, w16, tyInt, place, field, deref, copy, local, valueLocal, seq, assign, call, return, addrOf, aggregate}
-use Rattle.walks.proofs.Words.{Given, ‵, _⊛_, _$_, _∵_, !, qed, by, move, drop, split, fsplit, agg, whole, sub, look-in, look, init, forget, stop, hop, fld, from, load, addr, and-then, no-more, assigns, land, returns, enter, alloc1, alloc0, params1, pass1, pass0, free1, free0}
-use Rattle.walks.proofs.Words.{owns, Is, u16, sliceVal, MutSlice, Room, Triple, Meets, closing, Station}
+use Rattle.walks.proofs.Words.{URA, Heap, WpFn, Tables, Atoms, fmOf}
+use Rattle.walks.proofs.Words.{Name, Fn, w16, tyInt, place, copy, seq, call, return, Ty, MBody}
+use Rattle.walks.proofs.Words.{Given, _$_, !, by, look, init, stop, from, and-then, no-more, land, returns}
+use Rattle.walks.proofs.Words.{Triple, Meets, closing, Station}
 use Rattle.ship.proofs.Station.Laws as T′
-use Rattle.walks.proofs.Datum.{Datum, row, Law}
-use Rattle.walks.proofs.Row.{R}
-use Rattle.walks.proofs.Stage.{regTy, bookTy, regAt, regAgain, bookAt, bookAgain, Needs, Says, ended, clauses, TheStage, args, at, Walk, exits, meets-by, called}
+use Rattle.walks.proofs.Again.{relend, relends}
+use Rattle.walks.proofs.Locals.{has, leaves, read}
+use Rattle.walks.proofs.Datum.{Datum, Law}
+use Rattle.walks.proofs.Stage.{stage, regAt, regAgain, bookAt, bookAgain, Needs, Says, ended, clauses, TheStage, exits, meets-by, called}
+
+abbrev more : Datum → List Ty
+more Y = Y .ty ∷ regAt ∷ regAgain ∷ bookAt ∷ bookAgain ∷ regAt ∷ regAgain ∷ bookAt ∷ bookAgain ∷ []
+
+abbrev body : Name → Name → MBody
+body #g #h = relend T′.mir 1 5 6 (relend (tyInt w16) 2 7 8 (seq (call #g (copy (place 6 []) ∷ copy (place 8 []) ∷ copy (place 3 []) ∷ []) (place 4 []))
+    (relend T′.mir 1 9 10 (relend (tyInt w16) 2 11 12 (seq (call #h (copy (place 10 []) ∷ copy (place 12 []) ∷ copy (place 4 []) ∷ []) (place 0 [])) return)))))
 
 abbrev pub function : Datum → Datum → Datum → Name → Name → Fn
-function X Y Z #g #h = record {
-  lifetimes = 2;
-  outlives = [];
-  params = 3;
-  locals = local (Z .ty) valueLocal ∷ local regTy valueLocal ∷ local bookTy valueLocal ∷ local (X .ty) valueLocal ∷ local (Y .ty) valueLocal ∷ local regAt valueLocal
-      ∷ local regAgain valueLocal ∷ local bookAt valueLocal ∷ local bookAgain valueLocal ∷ local regAt valueLocal ∷ local regAgain valueLocal ∷ local bookAt valueLocal
-      ∷ local bookAgain valueLocal ∷ [];
-  body = seq (assign (place 5 []) (addrOf (place 1 (field 0 ∷ deref T′.mir ∷ []))))
-      (seq (assign (place 6 []) (aggregate (copy (place 5 []) ∷ copy (place 1 (field 1 ∷ [])) ∷ [])))
-      (seq (assign (place 7 []) (addrOf (place 2 (field 0 ∷ deref (tyInt w16) ∷ []))))
-      (seq (assign (place 8 []) (aggregate (copy (place 7 []) ∷ copy (place 2 (field 1 ∷ [])) ∷ [])))
-      (seq (call #g (copy (place 6 []) ∷ copy (place 8 []) ∷ copy (place 3 []) ∷ []) (place 4 []))
-      (seq (assign (place 9 []) (addrOf (place 1 (field 0 ∷ deref T′.mir ∷ []))))
-      (seq (assign (place 10 []) (aggregate (copy (place 9 []) ∷ copy (place 1 (field 1 ∷ [])) ∷ [])))
-      (seq (assign (place 11 []) (addrOf (place 2 (field 0 ∷ deref (tyInt w16) ∷ []))))
-      (seq (assign (place 12 []) (aggregate (copy (place 11 []) ∷ copy (place 2 (field 1 ∷ [])) ∷ [])))
-      (seq (call #h (copy (place 10 []) ∷ copy (place 12 []) ∷ copy (place 4 []) ∷ []) (place 0 [])) return)))))))));
-}
+function X Y Z #g #h = stage X Z (more Y) (body #g #h)
 
 module _ (X : Datum) (XL : Law X) (Y : Datum) (YL : Law Y) (Z : Datum) (ZL : Law Z) (NeedG : Needs X) (TG : Says X Y) (NeedH : Needs Y) (TH : Says Y Z) (Need : Needs X)
     (T : Says X Z)
@@ -41,51 +32,18 @@ module _ (X : Datum) (XL : Law X) (Y : Datum) (YL : Law Y) (Z : Datum) (ZL : Law
     (comes-to : (ys : List Station) (bs : List ℕ) (x : X .D) (y : Y .D) (zs : List Station) (cs : List ℕ) (r : Z .D) (zs′ : List Station) (cs′ : List ℕ)
     → Need ys bs x → TG x ys bs y zs cs → TH y zs cs r zs′ cs′ → length zs ≡ length ys → length cs ≡ length bs → length zs′ ≡ length zs → length cs′ ≡ length cs
     → T x ys bs r zs′ cs′) (#g #h : Name) where
-  module _ {M : Type 1} (𝓤 : URA M) (H : Heap 𝓤) (A : Atoms 𝓤) (W : Given 𝓤 H A) (κ : Lft) (q : Share) (b o : ℕ) (γ : GName) (ys : List Station) (κ₁ : Lft) (q₁ : Share)
-      (b₁ o₁ : ℕ) (γ₁ : GName) (bs : List ℕ) (x : X .D) (gn : Room R (length ys)) (g₁ : Room u16 (length bs)) (gx : Is (row X) x (XL .val x ∷ [])) (need : Need ys bs x) where
-    walk : (C : Calls 𝓤 H) (Λ : Loops 𝓤 H) → FmC 𝓤 H (W .laws) C → Triple 𝓤 (C #g) (TheStage X Y NeedG TG 𝓤 H A) → Triple 𝓤 (C #h) (TheStage Y Z NeedH TH 𝓤 H A)
-        → Walk X XL Z ZL Need T 𝓤 H A W κ q b o γ ys κ₁ q₁ b₁ o₁ γ₁ bs x C Λ (function X Y Z #g #h)
-    walk C Λ fm known-g known-h =
-        qed W ((‵ (flft κ q) ⊛ ‵ (flft κ₁ q₁) ⊛ ‵ ftrue) ∷ ‵ (owns (MutSlice (named 0) κ R ∷ MutSlice (named 1) κ₁ u16 ∷ row X ∷ [])
-        (args X XL Z ZL Need T 𝓤 H A W κ q b o γ ys κ₁ q₁ b₁ o₁ γ₁ bs x) (at X XL Z ZL Need T 𝓤 H A W κ q b o γ ys κ₁ q₁ b₁ o₁ γ₁ bs x)) ∷ []) ∵
-        enter ! C Λ (function X Y Z #g #h) (sliceVal (b, o) (length ys) ∷ sliceVal (b₁, o₁) (length bs) ∷ XL .val x ∷ []) _ $
-        alloc1 ! (λ l₀. alloc1 ! (λ l₁. alloc1 ! (λ l₂. alloc1 ! (λ l₃. alloc1 ! (λ l₄. alloc1 ! (λ l₅. alloc1 ! (λ l₆. alloc1 ! (λ l₇. alloc1 ! (λ l₈. alloc1 ! (λ l₉. alloc1 ! (λ l₁₀. alloc1 ! (λ l₁₁. alloc1 ! (λ l₁₂. alloc0 ! $ params1 ! $
-        pass1 ! (init ! 22 refl (tt, (tt, (record { fits = gn .0 }, tt)))) $ pass1 ! (init ! 20 refl (tt, (tt, (record { fits = g₁ .0 }, tt)))) $
-        pass1 ! (init ! 18 refl (XL .law 𝓤 H A W .typed x _ gx .0)) $ pass0 ! $
-        move ! (27 ∷ []) $ fsplit ! $ move ! (1 ∷ []) $ fsplit ! $ move ! (1 ∷ []) $ drop ! $ move ! (28 ∷ []) $ split ! $ move ! (1 ∷ []) $ split ! $ move ! (1 ∷ []) $
-        drop ! $
-        -- [the register; κ; the book; κ₁; _12; …; _0]
-        move ! (3 ∷ 1 ∷ 2 ∷ 0 ∷ []) $
-        assigns ! (addr ! (from ! (fld ! refl (hop ! (look-in ! 26 (sub ! 0 refl (whole !))) (stop !))))) (from ! (stop !)) (init ! 18 refl (tt, tt)) $
-        assigns ! (agg ! (and-then ! (load ! (from ! (stop !)) (look ! 18 refl)) (and-then ! (load ! (from ! (fld ! refl (stop !))) (look-in ! 26 (sub ! 1 refl (whole !))))
-        (no-more !)))) (from ! (stop !)) (init ! 16 refl (tt, (tt, (record { fits = gn .0 }, tt)))) $
-        assigns ! (addr ! (from ! (fld ! refl (hop ! (look-in ! 24 (sub ! 0 refl (whole !))) (stop !))))) (from ! (stop !)) (init ! 14 refl (tt, tt)) $
-        assigns ! (agg ! (and-then ! (load ! (from ! (stop !)) (look ! 14 refl)) (and-then ! (load ! (from ! (fld ! refl (stop !))) (look-in ! 24 (sub ! 1 refl (whole !))))
-        (no-more !)))) (from ! (stop !)) (init ! 12 refl (tt, (tt, (record { fits = g₁ .0 }, tt)))) $
-        called X XL Y NeedG TG #g 𝓤 H A W κ q b o γ (length ys) κ₁ q₁ b₁ o₁ γ₁ (length bs) gn g₁ x (XL .val x) ys bs gx (for-g ys bs x need) refl refl fm known-g
-        (λ ν μ δ ε. and-then ! (load ! (from ! (stop !)) (look ! 15 refl)) (and-then ! (load ! (from ! (stop !)) (look ! 11 refl)) (and-then ! (load ! (from ! (stop !))
-        (look ! 21 refl)) (no-more !)))) (λ y u zs cs e gy lz lc.
-        land ! (from ! (stop !)) (init ! 20 refl (YL .law 𝓤 H A W .typed y _ gy .0)) $
-        assigns ! (addr ! (from ! (fld ! refl (hop ! (look-in ! 26 (sub ! 0 refl (whole !))) (stop !))))) (from ! (stop !)) (init ! 10 refl (tt, tt)) $
-        assigns ! (agg ! (and-then ! (load ! (from ! (stop !)) (look ! 10 refl)) (and-then ! (load ! (from ! (fld ! refl (stop !))) (look-in ! 26 (sub ! 1 refl (whole !))))
-        (no-more !)))) (from ! (stop !)) (init ! 8 refl (tt, (tt, (record { fits = gn .0 }, tt)))) $
-        assigns ! (addr ! (from ! (fld ! refl (hop ! (look-in ! 24 (sub ! 0 refl (whole !))) (stop !))))) (from ! (stop !)) (init ! 6 refl (tt, tt)) $
-        assigns ! (agg ! (and-then ! (load ! (from ! (stop !)) (look ! 6 refl)) (and-then ! (load ! (from ! (fld ! refl (stop !))) (look-in ! 24 (sub ! 1 refl (whole !))))
-        (no-more !)))) (from ! (stop !)) (init ! 4 refl (tt, (tt, (record { fits = g₁ .0 }, tt)))) $
-        called Y YL Z NeedH TH #h 𝓤 H A W κ q b o γ (length ys) κ₁ q₁ b₁ o₁ γ₁ (length bs) gn g₁ y u zs cs gy (for-h ys bs x y zs cs need e lz lc) lz lc fm known-h
-        (λ ν μ δ ε. and-then ! (load ! (from ! (stop !)) (look ! 7 refl)) (and-then ! (load ! (from ! (stop !)) (look ! 3 refl)) (and-then ! (load ! (from ! (stop !))
-        (look ! 19 refl)) (no-more !)))) (λ r w zs′ cs′ e′ gr lz′ lc′.
-        land ! (from ! (stop !)) (init ! 28 refl (ZL .law 𝓤 H A W .typed r _ gr .0)) $
-        returns ! (look ! 28 refl) $ forget ! 28 refl $ forget ! 26 refl $ forget ! 24 refl $ forget ! 22 refl $ forget ! 20 refl $ forget ! 18 refl $ forget ! 16 refl $
-        forget ! 14 refl $ forget ! 12 refl $ forget ! 10 refl $ forget ! 8 refl $ forget ! 6 refl $ forget ! 4 refl $
-        move ! (28 ∷ 29 ∷ []) $ free1 ! $ move ! (26 ∷ 27 ∷ []) $ free1 ! $ move ! (24 ∷ 25 ∷ []) $ free1 ! $ move ! (22 ∷ 23 ∷ []) $ free1 ! $ move ! (20 ∷ 21 ∷ []) $
-        free1 ! $ move ! (18 ∷ 19 ∷ []) $ free1 ! $ move ! (16 ∷ 17 ∷ []) $ free1 ! $ move ! (14 ∷ 15 ∷ []) $ free1 ! $ move ! (12 ∷ 13 ∷ []) $ free1 ! $
-        move ! (10 ∷ 11 ∷ []) $ free1 ! $ move ! (8 ∷ 9 ∷ []) $ free1 ! $ move ! (6 ∷ 7 ∷ []) $ free1 ! $ move ! (4 ∷ 5 ∷ []) $ free1 ! $ free0 ! $
-        by ! (exits X XL Z ZL Need T 𝓤 H A W κ q b o γ ys κ₁ q₁ b₁ o₁ γ₁ bs x r w zs′ cs′ gr (lz′ ∙ lz) (lc′ ∙ lc)
-        (comes-to ys bs x y zs cs r zs′ cs′ need e e′ lz lc lz′ lc′)))))))))))))))))
-
   module _ {M : Type 1} (𝓤 : URA M) (H : Heap 𝓤) (A : Atoms 𝓤) (W : Given 𝓤 H A) (𝓣 : Tables 𝓤 H) where
     pub meets : Triple 𝓤 (𝓣 .C #g) (TheStage X Y NeedG TG 𝓤 H A) → Triple 𝓤 (𝓣 .C #h) (TheStage Y Z NeedH TH 𝓤 H A)
         → Meets 𝓤 H A (ended X Z .signature) (WpFn 𝓤 H (𝓣 .C) (𝓣 .Λ) (function X Y Z #g #h)) (closing 𝓤 H A (ended X Z) (clauses X Z Need T 𝓤 H A))
-    meets k-g k-h = meets-by X XL Z ZL Need T 𝓤 H A W 𝓣 (function X Y Z #g #h) (λ κ q b o γ ys κ₁ q₁ b₁ o₁ γ₁ bs x gn g₁ gx need.
-        walk 𝓤 H A W κ q b o γ ys κ₁ q₁ b₁ o₁ γ₁ bs x gn g₁ gx need (𝓣 .C) (𝓣 .Λ) (fmOf 𝓤 H (W .laws) 𝓣) k-g k-h)
+    meets k-g k-h = meets-by X XL Z ZL Need T 𝓤 H A W 𝓣 (more Y) (body #g #h) (λ t x gx need l.
+        -- [the register; κ; the book; κ₁; _12; …; _0]
+        relends ! 26 18 16 (t .room .0) refl refl refl refl refl refl refl refl $ relends ! 24 14 12 (t .room₁ .0) refl refl refl refl refl refl refl refl $
+        called X XL Y NeedG TG #g 𝓤 H A W t x (XL .val x) (t .ys) (t .bs) gx (for-g (t .ys) (t .bs) x need) refl refl (fmOf 𝓤 H (W .laws) 𝓣) k-g
+        (λ ν μ δ ε. and-then ! (read ! 15 refl) (and-then ! (read ! 11 refl) (and-then ! (read ! 21 refl) (no-more !)))) (λ y u zs cs e gy lz lc.
+        land ! (from ! (stop !)) (init ! 20 refl (YL .law 𝓤 H A W .typed y _ gy .0)) $
+        relends ! 26 10 8 (t .room .0) refl refl refl refl refl refl refl refl $ relends ! 24 6 4 (t .room₁ .0) refl refl refl refl refl refl refl refl $
+        called Y YL Z NeedH TH #h 𝓤 H A W t y u zs cs gy (for-h (t .ys) (t .bs) x y zs cs need e lz lc) lz lc (fmOf 𝓤 H (W .laws) 𝓣) k-h
+        (λ ν μ δ ε. and-then ! (read ! 7 refl) (and-then ! (read ! 3 refl) (and-then ! (read ! 19 refl) (no-more !)))) (λ r w zs′ cs′ e′ gr lz′ lc′.
+        land ! (from ! (stop !)) (init ! 28 refl (ZL .law 𝓤 H A W .typed r _ gr .0)) $
+        returns ! (look ! 28 refl) $ leaves ! 4 (has _ ∷ has _ ∷ has _ ∷ has _ ∷ has _ ∷ has _ ∷ has _ ∷ has _ ∷ has _ ∷ has _ ∷ has _ ∷ has _ ∷ has _ ∷ []) refl $
+        by ! (exits X XL Z ZL Need T 𝓤 H A W t x r w zs′ cs′ gr (lz′ ∙ lz) (lc′ ∙ lc) (comes-to (t .ys) (t .bs) x y zs cs r zs′ cs′ need e e′ lz lc lz′ lc′)))))
