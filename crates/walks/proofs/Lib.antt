@@ -10,6 +10,7 @@ pub mod Folds
 pub mod FoldingCode
 pub mod Lookups
 pub mod Folding
+pub mod Changing
 pub mod Update
 pub mod Changes
 pub mod Each
@@ -18,6 +19,7 @@ pub mod Walking
 pub mod Sweeps
 pub mod Sweeping
 pub mod Truth
+pub mod Looking
 pub mod Seeks
 pub mod Seeking
 pub mod Seconds

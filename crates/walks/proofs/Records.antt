@@ -5,14 +5,15 @@
 -- Assumes `Given`.
 use Rattle.walks.proofs.Words.{_≡_, refl, sym, ap, _∙_, ℕ, _<_, List, [], _∷_, length, getD}
 use Rattle.walks.proofs.Words.{URA, fullShare, SProp, ent, emp, id⊢, Lft, Share, ftrue, fat, flft, Heap, WpFn, Tables, Atoms, Lfts, Shares, toks, fact, FmC, fmOf, WpFn-mono}
-use Rattle.walks.proofs.Words.{Name, Fn, named, w64, tyInt, tyPtr, place, field, deref, unsigned, copy as copyᴹ, int, local, valueLocal, seq, assign, call, return, rvOpd, op2, mul, offset, Val, vint, vptr}
-use Rattle.walks.proofs.Words.{Given, ‵, raw, _⊛_, ⋆, _$_, _∵_, !, qed, by, move, keep, drop, use0, split, join, rewrite, fsplit, fjoin, suffices, frame, done, whole, sub, look-in, look, look-raw, init, forget, stop, hop, fld, from, load, lit, of-opd, bin, and-then, no-more, assigns, land, returns, enter, alloc1, alloc0, params1, pass1, pass0, free1, free0}
+use Rattle.walks.proofs.Words.{Name, Fn, named, w64, tyInt, tyPtr, place, field, deref, unsigned, copy as copyᴹ, int, seq, assign, call, return, rvOpd, op2, mul, offset, Val, vint, vptr}
+use Rattle.walks.proofs.Words.{Given, ‵, raw, _⊛_, ⋆, _$_, _∵_, !, qed, by, move, drop, use0, split, join, rewrite, fsplit, fjoin, suffices, frame, done, whole, sub, look-in, look, look-raw, init, stop, hop, fld, from, load, lit, of-opd, bin, and-then, no-more, assigns, land, returns, enter, params1, pass1, pass0}
 use Rattle.walks.proofs.Words.{yes, owns, Is, shows, uint-lawful, RefT, now, Slot, plain, shrSliceOf, sliceVal, ShrSlice, Room, slice-vals, shr-slice-tells, place-is, elem-out, elem-back, looks-slice, shuts-slice, only}
 use Rattle.walks.proofs.Words.{owned, nothing, Vals, onEntry, Contract, Triple, Meets, Clauses, Ended, closing, says, needs, Stays, stay-dropped, walkOf, Walks, ends-at, walked, goes-dropped, walk-meets, Station, blank}
 use Rattle.ship.proofs.Station.Laws as T′
 use Rattle.walks.proofs.Datum.{Datum, row, Law, number}
 use Rattle.walks.proofs.Row.{R, vals, tells, makes, copy, lawful, stride, bytes}
-use Rattle.walks.proofs.Asking.{The, asks}
+use Rattle.walks.proofs.Asking.{The, asks, asks-one}
+use Rattle.walks.proofs.Locals.{values, has, opens, leaves, read}
 use Rattle.walks.proofs.FoldingCode.{regTy}
 
 module _ (X Q Y : Datum) where
@@ -21,8 +22,7 @@ module _ (X Q Y : Datum) where
     lifetimes = 1;
     outlives = [];
     params = 3;
-    locals = local (Y .ty) valueLocal ∷ local regTy valueLocal ∷ local (X .ty) valueLocal ∷ local (Q .ty) valueLocal ∷ local (tyInt w64) valueLocal
-        ∷ local (tyInt w64) valueLocal ∷ local tyPtr valueLocal ∷ local T′.mir valueLocal ∷ [];
+    locals = values (Y .ty ∷ regTy ∷ X .ty ∷ Q .ty ∷ tyInt w64 ∷ tyInt w64 ∷ tyPtr ∷ T′.mir ∷ []);
     body = seq (call #at (copyᴹ (place 2 []) ∷ []) (place 4 []))
         (seq (assign (place 5 []) (op2 (mul unsigned) (copyᴹ (place 4 [])) (int w64 stride)))
         (seq (assign (place 6 []) (op2 offset (copyᴹ (place 1 (field 0 ∷ []))) (copyᴹ (place 5 []))))
@@ -47,9 +47,6 @@ module _ (X Q Y : Datum) where
     (stay-dropped (plain (λ _. row X)) yes, (stay-dropped (plain (λ _. row Q)) yes, tt)),
   )
 
-  abbrev pub atSlots : List (Slot 0)
-  atSlots = plain (λ _. row X) ∷ []
-
   abbrev pub gSlots : List (Slot 0)
   gSlots = plain (λ _. R) ∷ plain (λ _. row X) ∷ plain (λ _. row Q) ∷ []
 
@@ -63,7 +60,7 @@ module _ (X Q Y : Datum) (where-is : X .D → ℕ) (G : Station → X .D → Q .
   }
 
   abbrev pub TheAt : Contract 𝓤
-  TheAt = The 𝓤 H A 0 (atSlots X Q Y) (number w64) (λ κs a. emp 𝓤) (λ κs a. where-is (a .0))
+  TheAt = The 𝓤 H A 0 (plain (λ _. row X) ∷ []) (number w64) (λ κs a. emp 𝓤) (λ κs a. where-is (a .0))
 
   abbrev pub TheG : Contract 𝓤
   TheG = The 𝓤 H A 0 (gSlots X Q Y) Y (λ κs a. emp 𝓤) (λ κs a. G (a .0) (a .1 .0) (a .1 .1 .0))
@@ -123,49 +120,44 @@ module _ (X Q Y : Datum) (where-is : X .D → ℕ) (G : Station → X .D → Q .
           nothing ! $ nothing ! $ fjoin ! $ nothing ! $ fjoin ! $ nothing ! $ fjoin ! $ frame ! $
           owned ! (row Y) (Is (row Y)) (YL .make 𝓤 H A W) r (u ∷ []) gr $ done !
 
-      l : i < length ys
-      l = inside ys h k need
+      lt-n : i < length ys
+      lt-n = inside ys h k need
 
       walk : ent 𝓤 (onEntry 𝓤 H A (ended X Q Y .signature) κs qs a at) (runs-f (v ∷ XL .val h ∷ QL .val k ∷ []) Post)
       walk =
           qed W ((‵ (flft κ q) ⊛ ‵ ftrue) ∷ ‵ (owns (ShrSlice (named 0) κ R ∷ row X ∷ row Q ∷ []) a at) ∷ []) ∵
           enter ! (𝓣 .C) (𝓣 .Λ) (function X Q Y #at #g) (v ∷ XL .val h ∷ QL .val k ∷ []) _ $
-          alloc1 ! (λ l₀. alloc1 ! (λ l₁. alloc1 ! (λ l₂. alloc1 ! (λ l₃. alloc1 ! (λ l₄. alloc1 ! (λ l₅. alloc1 ! (λ l₆. alloc1 ! (λ l₇. alloc0 ! $ params1 ! $
+          opens ! (λ l. params1 ! $
           pass1 ! (init ! 12 refl (tt, (tt, (record { fits = gn .0 }, tt)))) $ pass1 ! (init ! 10 refl (XL .law 𝓤 H A W .typed h _ gh .0)) $
           pass1 ! (init ! 8 refl (QL .law 𝓤 H A W .typed k _ gk .0)) $ pass0 ! $
           -- [_7; …; _0; the token; what is owned]
           move ! (17 ∷ []) $ fsplit ! $ move ! (1 ∷ []) $ drop ! $ move ! (17 ∷ []) $ split ! $ move ! (1 ∷ []) $ drop ! $
           -- [κ; the register; _7; …]
-          nothing ! $ owned ! (row X) (Is (row X)) (XL .make 𝓤 H A W) h (XL .val h ∷ []) gh $ fjoin ! $ use0 W (raw (toks 𝓤 A 0 tt tt)) (id⊢ 𝓤 (emp 𝓤)) $
-          asks 𝓤 H A 0 (atSlots X Q Y) (number w64) (λ κs z. emp 𝓤) (λ κs z. where-is (z .0)) W tt tt (h, tt) (XL .val h ∷ [], tt) fm k-at (id⊢ 𝓤 (emp 𝓤))
-          (and-then ! (load ! (from ! (stop !)) (look ! 13 refl)) (no-more !)) (λ p u ep gp. drop ! $
+          asks-one 𝓤 H A W X XL (number w64) where-is h (XL .val h) gh fm k-at (and-then ! (read ! 13 refl) (no-more !)) (λ p u ep gp.
           land ! (from ! (stop !)) (init ! 8 refl (uint-lawful 𝓤 H A W w64 .typed p _ gp .0)) $
-          rewrite ! 8 (λ (z : Val). ‵ (fat fullShare (tyInt w64) l₄ 0 z)) (ap only (gp .0) ∙ ap (vint w64) ep) refl $
-          assigns ! (bin ! (load ! (from ! (stop !)) (look ! 8 refl)) (lit ! tt) (record { fits = bytes (length ys) i gn l })) (from ! (stop !))
-          (init ! 6 refl (tt, record { fits = bytes (length ys) i gn l })) $
-          assigns ! (bin ! (load ! (from ! (fld ! refl (stop !))) (look-in ! 14 (sub ! 0 refl (whole !)))) (load ! (from ! (stop !)) (look ! 6 refl)) tt)
+          rewrite ! 8 (λ (z : Val). ‵ (fat fullShare (tyInt w64) (l .1 .1 .1 .1 .0) 0 z)) (ap only (gp .0) ∙ ap (vint w64) ep) refl $
+          assigns ! (bin ! (read ! 8 refl) (lit ! tt) (record { fits = bytes (length ys) i gn lt-n })) (from ! (stop !))
+          (init ! 6 refl (tt, record { fits = bytes (length ys) i gn lt-n })) $
+          assigns ! (bin ! (load ! (from ! (fld ! refl (stop !))) (look-in ! 14 (sub ! 0 refl (whole !)))) (read ! 6 refl) tt)
           (from ! (stop !)) (init ! 4 refl (tt, tt)) $
-          rewrite ! 4 (λ (z : ℕ). ‵ (fat fullShare tyPtr l₆ 0 (vptr b z))) (sym (place-is stride o i)) refl $
+          rewrite ! 4 (λ (z : ℕ). ‵ (fat fullShare tyPtr (l .1 .1 .1 .1 .1 .1 .0) 0 (vptr b z))) (sym (place-is stride o i)) refl $
           move ! (1 ∷ []) $ fsplit ! $ drop ! $ fsplit ! $ drop ! $
           looks-slice ! tt R (Is R) (shows 𝓤 H A R) vals tells (copy 𝓤 H A W) ys b o (λ q′. move ! (2 ∷ []) $ drop ! $
-          elem-out ! R (Is R) (shows 𝓤 H A R) vals tells q′ ys i blank b o l (λ gs.
+          elem-out ! R (Is R) (shows 𝓤 H A R) vals tells q′ ys i blank b o lt-n (λ gs.
           -- [reg[k]; what it owns; the others; what shuts; _7; …]
           assigns ! (of-opd ! (load ! (from ! (hop ! (look ! 6 refl) (stop !))) (look-raw ! 0 refl))) (from ! (stop !))
           (init ! 4 refl (lawful 𝓤 H A W .typed s _ gs .0)) $
-          elem-back ! R q′ ys i blank (vals s) b o l $ shuts-slice ! tt R q′ ys b o $
+          elem-back ! R q′ ys i blank (vals s) b o lt-n $ shuts-slice ! tt R q′ ys b o $
           -- [κ; _7; …]
           nothing ! $ owned ! (row Q) (Is (row Q)) (QL .make 𝓤 H A W) k (QL .val k ∷ []) gk $ fjoin ! $
           owned ! (row X) (Is (row X)) (XL .make 𝓤 H A W) h (XL .val h ∷ []) gh $ fjoin ! $ owned ! R (Is R) (makes 𝓤 H A) s (vals s) gs $ fjoin ! $
           use0 W (raw (toks 𝓤 A 0 tt tt)) (id⊢ 𝓤 (emp 𝓤)) $
           asks 𝓤 H A 0 (gSlots X Q Y) Y (λ κs z. emp 𝓤) (λ κs z. G (z .0) (z .1 .0) (z .1 .1 .0)) W tt tt (s, (h, (k, tt)))
           (vals s, (XL .val h ∷ [], (QL .val k ∷ [], tt))) fm k-g (id⊢ 𝓤 (emp 𝓤))
-          (and-then ! (load ! (from ! (stop !)) (look ! 2 refl)) (and-then ! (load ! (from ! (stop !)) (look ! 12 refl))
-          (and-then ! (load ! (from ! (stop !)) (look ! 10 refl)) (no-more !)))) (λ r y er gr. drop ! $
-          land ! (from ! (stop !)) (init ! 15 refl (YL .law 𝓤 H A W .typed r _ gr .0)) $ returns ! (look ! 15 refl) $
-          forget ! 15 refl $ forget ! 13 refl $ forget ! 11 refl $ forget ! 9 refl $ forget ! 7 refl $ forget ! 5 refl $ forget ! 3 refl $ forget ! 1 refl $
-          move ! (15 ∷ 16 ∷ []) $ free1 ! $ move ! (13 ∷ 14 ∷ []) $ free1 ! $ move ! (11 ∷ 12 ∷ []) $ free1 ! $ move ! (9 ∷ 10 ∷ []) $ free1 ! $
-          move ! (7 ∷ 8 ∷ []) $ free1 ! $ move ! (5 ∷ 6 ∷ []) $ free1 ! $ move ! (3 ∷ 4 ∷ []) $ free1 ! $ move ! (1 ∷ 2 ∷ []) $ free1 ! $ free0 ! $
-          keep ! (0 ∷ []) $ by ! (exits r y gr er)))))))))))))
+          (and-then ! (read ! 2 refl) (and-then ! (read ! 12 refl)
+          (and-then ! (read ! 10 refl) (no-more !)))) (λ r y er gr. drop ! $
+          land ! (from ! (stop !)) (init ! 15 refl (YL .law 𝓤 H A W .typed r _ gr .0)) $ returns ! (look ! 15 refl) $ leaves ! 1 (has _ ∷ has _ ∷ has _ ∷ has _ ∷ has _ ∷ has _ ∷ has _ ∷ has _ ∷ []) refl $
+          by ! (exits r y gr er))))))
 
     walks : Walks 𝓤 H A (ended X Q Y) (stayed X Q Y) runs-f clauses
     walks = walked 𝓤 H A (ended X Q Y) (stayed X Q Y) clauses runs-f
