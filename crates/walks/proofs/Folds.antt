@@ -1,7 +1,5 @@
 -- One turn more of a fold. Assumes nothing.
-use mathlib.Core.Path.{_≡_, refl, sym, ap, _∙_}
-use Prim.Native.Nat.{ℕ, suc, _+_}
-use native.Mathlib.Numerals.{add-one}
+use Rattle.walks.proofs.Words.{_≡_, refl, sym, ap, _∙_, ℕ, suc, _+_, add-one}
 use Rattle.walks.specs.Folded.{foldedOnce, folded}
 
 module _ {S X Y : Type 0} (s₀ : S) (a : S → ℕ → X) (b : X → Y) (c : S → X → Y → ℕ → S) where
