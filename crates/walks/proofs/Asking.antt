@@ -4,9 +4,7 @@
 --     asks                     the step.        asks-one     the step for one plain parameter and no need
 --     had-one, had-two         one plain value, or two, as a function is handed them
 -- Assumes `Given`.
-use Rattle.walks.proofs.Words.{_≡_, ℕ, List, [], _∷_}
-use Rattle.walks.proofs.Words.{URA, SProp, ent, emp, sep, id⊢, exE, snd∗, Heap, Env, Calls, Loops, Atoms, sem, Lfts, Shares, toks, fact, FmC}
-use Rattle.walks.proofs.Words.{Name, Place, Operand, MBody, seq, call, Val}
+use Rattle.walks.proofs.Words.{_≡_, ℕ, List, [], _∷_, URA, SProp, ent, emp, sep, id⊢, exE, snd∗, Heap, Env, Calls, Loops, Atoms, sem, Lfts, Shares, toks, fact, FmC, Name, Place, Operand, MBody, seq, call, Val}
 use Rattle.walks.proofs.Words.{Given, Go, Item, ‵, raw, some, later, _⊛_, Post, runs, lands, Sq, _$_, _∵_, !, qed, move, use0, use1, use2, split, join, pick, frame, await, done, drop, fjoin, Opds}
 use Rattle.walks.proofs.Words.{yes, Denots, Valss, owns, Is, shows, Slot, plain, typesAt, facts, heard, calls-at, Kepts, Contract, Triple, tripleOf, Clauses, Ended, ensured, lasts, closing, owned, nothing}
 use Rattle.walks.proofs.Datum.{Datum, row, Law}
@@ -54,7 +52,8 @@ module _ {M : Type 1} (𝓤 : URA M) (H : Heap 𝓤) (A : Atoms 𝓤) (W : Given
     pub had-one : ent 𝓤 (emp 𝓤) (sem 𝓤 H A (owns (row X ∷ []) (x, tt) (u ∷ [], tt)))
     had-one = qed W [] ∵ nothing ! $ owned ! (row X) (Is (row X)) (XL .make 𝓤 H A W) x (u ∷ []) is $ fjoin ! $ done !
 
-    pub had-two : (Y : Datum) (YL : Law Y) (y : Y .D) (w : Val) → Is (row Y) y (w ∷ []) → ent 𝓤 (emp 𝓤) (sem 𝓤 H A (owns (row X ∷ row Y ∷ []) (x, (y, tt)) (u ∷ [], (w ∷ [], tt))))
+    pub had-two : (Y : Datum) (YL : Law Y) (y : Y .D) (w : Val) → Is (row Y) y (w ∷ []) → ent 𝓤 (emp 𝓤)
+        (sem 𝓤 H A (owns (row X ∷ row Y ∷ []) (x, (y, tt)) (u ∷ [], (w ∷ [], tt))))
     had-two Y YL y w is′ =
         qed W [] ∵ nothing ! $ owned ! (row Y) (Is (row Y)) (YL .make 𝓤 H A W) y (w ∷ []) is′ $ fjoin ! $ owned ! (row X) (Is (row X)) (XL .make 𝓤 H A W) x (u ∷ []) is $
         fjoin ! $ done !
@@ -64,8 +63,10 @@ module _ {M : Type 1} (𝓤 : URA M) (H : Heap 𝓤) (A : Atoms 𝓤) (W : Given
     TheOne = The 𝓤 H A 0 (plain (λ _. row X) ∷ []) Y (λ κs a. emp 𝓤) (λ κs a. g (a .0))
 
     pub asks-one : {#g : Name} {C : Calls 𝓤 H} {Λ : Loops 𝓤 H} {E : Env 𝓤 H} {xs : List Operand} {d : Place} {rest : MBody} {p : Post 𝓤 H} {Γ : List (Item 𝓤)}
-        (x : X .D) (u : Val) → Is (row X) x (u ∷ []) → FmC 𝓤 H (W .laws) C → Triple 𝓤 (C #g) TheOne → Opds Go W (raw (TheOne .pre ((tt, tt, tt, (x, tt), (u ∷ [], tt)), tt)) ∷ Γ) E xs (u ∷ [])
+        (x : X .D) (u : Val) → Is (row X) x (u ∷ []) → FmC 𝓤 H (W .laws) C → Triple 𝓤 (C #g) TheOne → Opds Go W
+        (raw (TheOne .pre ((tt, tt, tt, (x, tt), (u ∷ [], tt)), tt)) ∷ Γ) E xs (u ∷ [])
         → ((r : Y .D) (w : Val) → r ≡ g x → Is (row Y) r (w ∷ []) → Sq W Γ (lands C Λ E d w rest p)) → Sq W Γ (runs C Λ E (seq (call #g xs d) rest) p)
     asks-one x u is fm known os k =
         use0 W (‵ (owns (row X ∷ []) (x, tt) (u ∷ [], tt))) (had-one x u is) $ use0 W (raw (toks 𝓤 A 0 tt tt)) (id⊢ 𝓤 (emp 𝓤)) $
-        asks 𝓤 H A 0 (plain (λ _. row X) ∷ []) Y (λ κs a. emp 𝓤) (λ κs a. g (a .0)) W tt tt (x, tt) (u ∷ [], tt) fm known (id⊢ 𝓤 (emp 𝓤)) os (λ r w e isr. drop ! $ k r w e isr)
+        asks 𝓤 H A 0 (plain (λ _. row X) ∷ []) Y (λ κs a. emp 𝓤) (λ κs a. g (a .0)) W tt tt (x, tt) (u ∷ [], tt) fm known (id⊢ 𝓤 (emp 𝓤)) os (λ r w e isr. drop ! $
+        k r w e isr)

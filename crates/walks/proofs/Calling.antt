@@ -10,12 +10,10 @@ use Rattle.walks.proofs.Words.{_≡_, refl, sym, ap, subst, _∙_, ℕ,
 use Rattle.walks.proofs.Words.{URA, fullShare, SProp, ent, emp, id⊢, via, fst∗, Lft, Share, ftrue, fat, flft, Heap, WpFn, Tables, Atoms, toks, fact, FmC, fmOf, WpFn-mono}
 use Rattle.walks.proofs.Words.{Name, Ty, Fn, MBody, named, imm, w8, w16, w64, tyInt, tyBool, tyRef, place, field, copy, seq, assign, cond, skip, call, return, rvOpd, Local, Val, vint, vbool}
 use Rattle.walks.proofs.Words.{Given, ‵, raw, _⊛_, ⋆, atRet, _$_, _∵_, !, qed, by, move, drop, use1, split, join, rewrite, fsplit, fjoin, suffices, frame, done, whole, sub, look-in, skips, branches, look, init, stop, fld, from, load, of-opd, and-then, no-more, assigns, first, land, returns, returns-within, enter, exec, params1, pass1, pass0}
-use Rattle.walks.proofs.Words.{yes as kept-so, owns, Is, uint-makes, bool-lawful, u8, u16, usize, RefT, now, sliceTy, sliceVal, MutSlice, ShrSlice, Room, slice-vals, mut-slice-tells, shr-slice-tells, Slot, plain, mutSliceOf, shrSliceOf}
-use Rattle.walks.proofs.Words.{only, owned, nothing, Vals, onEntry, Contract, Triple, Meets, Clauses, Ended, closing, says, Stays, stay-slice, stay-dropped, walkOf, Walks, ends-at, walked, goes-slice, goes-dropped, walk-meets, Station}
-use Rattle.ship.proofs.Station.Laws as T′
-use Rattle.walks.proofs.Datum.{Datum, row, Law}
+use Rattle.walks.proofs.Words.{yes as kept-so, owns, Is, uint-makes, bool-lawful, u8, u16, usize, RefT, now, sliceTy, sliceVal, MutSlice, ShrSlice, Room, slice-vals, mut-slice-tells, shr-slice-tells, Slot, plain, mutSliceOf, shrSliceOf, only}
+use Rattle.walks.proofs.Words.{owned, nothing, Vals, onEntry, Contract, Triple, Meets, Clauses, Ended, closing, says, Stays, stay-slice, stay-dropped, walkOf, Walks, ends-at, walked, goes-slice, goes-dropped, walk-meets, Station, stationTy}
+use Rattle.walks.proofs.Datum.{Datum, row, Law, truth, is-true, is-false}
 use Rattle.walks.proofs.Row.{R}
-use Rattle.walks.proofs.Truth.{truth, is-true, is-false}
 use Rattle.walks.proofs.Locals.{values, placed, has, opens, leaves, read}
 use Rattle.walks.proofs.Again.{relend, relends}
 use Rattle.walks.proofs.Asking.{The, asks, asks-one}
@@ -26,7 +24,7 @@ abbrev bytesTy : Ty
 bytesTy = sliceTy (tyRef (named 2) imm (tyInt w8))
 
 abbrev arm : Name → MBody
-arm #inner = relend T′.mir 1 9 10 (relend (tyInt w16) 2 11 12 (seq (call #inner (copy (place 10 []) ∷ copy (place 12 []) ∷ copy (place 5 []) ∷ []) (place 0 [])) return))
+arm #inner = relend stationTy 1 9 10 (relend (tyInt w16) 2 11 12 (seq (call #inner (copy (place 10 []) ∷ copy (place 12 []) ∷ copy (place 5 []) ∷ []) (place 0 [])) return))
 
 abbrev rest : Name → MBody
 rest #refused = seq (call #refused (copy (place 5 []) ∷ []) (place 0 [])) return
@@ -126,7 +124,8 @@ module _ (X : Datum) (XL : Law X) (Q : Datum) (QL : Law Q) (Y : Datum) (YL : Law
           → S x ds (t .ys) (t .bs) r zs cs → ent 𝓤 (⋆ 𝓤 H A (Holds t zs cs (‵ (flft κ₂ q₂) ∷ []))) (Post y)
       exits r y zs cs gr lz lc e =
           qed W (Holds t zs cs (‵ (flft κ₂ q₂) ∷ [])) ∵
-          suffices ! _ (ends-at 𝓤 H A (ended X Y) (stayed X Y) clauses W (((t .κ, (t .κ₁, (κ₂, tt))), (t .q, (t .q₁, (q₂, tt))), tt, a, at), tt) y r (zs, (cs, (tt, (tt, tt))))
+          suffices ! _ (ends-at 𝓤 H A (ended X Y) (stayed X Y) clauses W (((t .κ, (t .κ₁, (κ₂, tt))), (t .q, (t .q₁, (q₂, tt))), tt, a, at), tt) y r
+          (zs, (cs, (tt, (tt, tt))))
           (lz, (lc, (tt, (tt, tt))))) $ says ! e $ nothing ! $ move ! (5 ∷ 0 ∷ []) $ join ! $ move ! (4 ∷ 0 ∷ []) $ join ! $ move ! (2 ∷ 0 ∷ []) $ join ! $ frame ! $
           nothing ! $ nothing ! $ fjoin ! $ nothing ! $ fjoin ! $ move ! (2 ∷ 0 ∷ []) $ fjoin ! $ move ! (1 ∷ 0 ∷ []) $ fjoin ! $ frame ! $
           owned ! (row Y) (Is (row Y)) (YL .make 𝓤 H A W) r (y ∷ []) gr $ done !
@@ -142,14 +141,17 @@ module _ (X : Datum) (XL : Law X) (Q : Datum) (QL : Law Q) (Y : Datum) (YL : Law
           split ! $ move ! (1 ∷ []) $ split ! $ move ! (1 ∷ []) $ drop ! $
           -- [the bytes; κ₂; the register; κ; the book; κ₁; _12; …; _0]
           move ! (3 ∷ 0 ∷ 5 ∷ 2 ∷ 4 ∷ 1 ∷ []) $
-          assigns ! (of-opd ! (load ! (from ! (fld ! refl (stop !))) (look-in ! 28 (sub ! 1 refl (whole !))))) (from ! (stop !)) (init ! 18 refl (tt, record { fits = t .room .0 })) $
-          assigns ! (of-opd ! (load ! (from ! (fld ! refl (stop !))) (look-in ! 26 (sub ! 1 refl (whole !))))) (from ! (stop !)) (init ! 16 refl (tt, record { fits = t .room₁ .0 })) $
+          assigns ! (of-opd ! (load ! (from ! (fld ! refl (stop !))) (look-in ! 28 (sub ! 1 refl (whole !))))) (from ! (stop !))
+          (init ! 18 refl (tt, record { fits = t .room .0 })) $
+          assigns ! (of-opd ! (load ! (from ! (fld ! refl (stop !))) (look-in ! 26 (sub ! 1 refl (whole !))))) (from ! (stop !))
+          (init ! 16 refl (tt, record { fits = t .room₁ .0 })) $
           nothing ! $ owned ! (row X) (Is (row X)) (XL .make 𝓤 H A W) x (XL .val x ∷ []) gx $ fjoin ! $ move ! (1 ∷ 0 ∷ []) $ fjoin ! $
           owned ! usize (Is usize) (uint-makes 𝓤 H A W w64) (length (t .bs)) (vint w64 (length (t .bs)) ∷ []) (refl, t .room₁ .0) $ fjoin ! $
           owned ! usize (Is usize) (uint-makes 𝓤 H A W w64) (length (t .ys)) (vint w64 (length (t .ys)) ∷ []) (refl, t .room .0) $ fjoin ! $
           nothing ! $ move ! (2 ∷ 0 ∷ []) $ join ! $ use1 W (raw (toks 𝓤 A 1 (κ₂, tt) (q₂, tt))) (id⊢ 𝓤 _) $
           asks 𝓤 H A 1 (toldSlots X) Q (λ κs a. emp 𝓤) (λ κs a. To (a .0) (a .1 .0) (now (a .1 .1 .0)) (a .1 .1 .1 .0)) W (κ₂, tt) (q₂, tt)
-          (length (t .ys), (length (t .bs), (c, (x, tt)))) (vint w64 (length (t .ys)) ∷ [], (vint w64 (length (t .bs)) ∷ [], (v₂ ∷ [], (XL .val x ∷ [], tt)))) fm k-told (id⊢ 𝓤 (emp 𝓤))
+          (length (t .ys), (length (t .bs), (c, (x, tt)))) (vint w64 (length (t .ys)) ∷ [], (vint w64 (length (t .bs)) ∷ [], (v₂ ∷ [], (XL .val x ∷ [], tt)))) fm
+          k-told (id⊢ 𝓤 (emp 𝓤))
           (and-then ! (read ! 17 refl) (and-then ! (read ! 15 refl) (and-then ! (read ! 23 refl) (and-then ! (read ! 21 refl) (no-more !))))) (λ k u ek gk.
           use1 W (‵ (flft κ₂ q₂) ⊛ ‵ ftrue) (id⊢ 𝓤 _) $ split ! $ move ! (1 ∷ []) $ drop ! $
           -- [the register; κ; the book; κ₁; κ₂; _12; …; _0]
@@ -174,12 +176,15 @@ module _ (X : Datum) (XL : Law X) (Q : Datum) (QL : Law Q) (Y : Datum) (YL : Law
           fm = fmOf 𝓤 H (W .laws) 𝓣
 
           needs-inner : (k : Q .D) → k ≡ To (length (t .ys)) (length (t .bs)) ds x → T (Rd k) → NeedI (t .ys) (t .bs) k
-          needs-inner k ek y = subst (λ (z : Q .D). NeedI (t .ys) (t .bs) z) (sym ek) (for-inner ds (t .ys) (t .bs) x (subst (λ (z : Q .D). Rd z ≡ true) ek (is-true (Rd k) y)))
+          needs-inner k ek y = subst (λ (z : Q .D). NeedI (t .ys) (t .bs) z) (sym ek)
+              (for-inner ds (t .ys) (t .bs) x (subst (λ (z : Q .D). Rd z ≡ true) ek (is-true (Rd k) y)))
 
-          answered : (k : Q .D) → k ≡ To (length (t .ys)) (length (t .bs)) ds x → T (Rd k) → (r : Y .D) (zs : List Station) (cs : List ℕ) → TI k (t .ys) (t .bs) r zs cs → length zs ≡ length (t .ys)
+          answered : (k : Q .D) → k ≡ To (length (t .ys)) (length (t .bs)) ds x → T (Rd k) → (r : Y .D) (zs : List Station) (cs : List ℕ) → TI k (t .ys)
+              (t .bs) r zs cs → length zs ≡ length (t .ys)
               → length cs ≡ length (t .bs)
               → S x ds (t .ys) (t .bs) r zs cs
-          answered k ek y r zs cs e = by-inner ds (t .ys) (t .bs) x r zs cs (subst (λ (z : Q .D). Rd z ≡ true) ek (is-true (Rd k) y)) (subst (λ (z : Q .D). TI z (t .ys) (t .bs) r zs cs) ek e)
+          answered k ek y r zs cs e = by-inner ds (t .ys) (t .bs) x r zs cs (subst (λ (z : Q .D). Rd z ≡ true) ek (is-true (Rd k) y))
+              (subst (λ (z : Q .D). TI z (t .ys) (t .bs) r zs cs) ek e)
 
           turned-away : (k : Q .D) → k ≡ To (length (t .ys)) (length (t .bs)) ds x → T (not (Rd k)) → (r : Y .D) → r ≡ E k → S x ds (t .ys) (t .bs) r (t .ys) (t .bs)
           turned-away k ek n r er = subst (λ (z : Y .D). S x ds (t .ys) (t .bs) z (t .ys) (t .bs)) (sym (er ∙ ap E ek))
@@ -197,7 +202,14 @@ module _ (X : Datum) (XL : Law X) (Q : Datum) (QL : Law Q) (Y : Datum) (YL : Law
           goes-slice 𝓤 H A W 3 0 tt (plain (λ _. R)),
           (
             goes-slice 𝓤 H A W 3 1 tt (plain (λ _. u16)),
-            (goes-dropped 𝓤 H A W 3 (shrSliceOf (2 ∷ []) tt (plain (λ _. u8))) kept-so (λ κs x f. refl), (goes-dropped 𝓤 H A W 3 (plain (λ _. row X)) kept-so (λ κs x f. refl), tt)),
+            (
+              goes-dropped 𝓤 H A W 3 (shrSliceOf (2 ∷ []) tt (plain (λ _. u8))) kept-so (λ κs x f. refl),
+              (
+                goes-dropped 𝓤 H A W 3 (plain (λ _. row X)) kept-so
+                    (λ κs x f. refl),
+                tt,
+              ),
+            ),
           ),
         )
         clauses runs-f (WpFn-mono 𝓤 H (W .laws) 𝓣 (function X Q Y #told #ready #inner #refused)) walks

@@ -2,10 +2,10 @@
 --     fn f(reg: &mut [Station], x: X) requires { Need } ensures { now (reg .exit) ≡ F }
 --     locals, change           f's locals and its MIR, at any further locals and any body.        ended, clauses   its signature and contract
 --     Open                     what is had of the register while it is open, whatever list lies there by now
---     exits                    what a walk of a change shows at its end, where the register is shut again.        meets-by     a change meets its contract, from a walk of its body
+--     exits                    what a walk of a change shows at its end, where the register is shut again
+--     meets-by                 a change meets its contract, from a walk of its body
 -- Assumes `Given`.
-use Rattle.walks.proofs.Words.{_≡_, refl, sym, ap, subst, ℕ, List, [], _∷_, length}
-use Rattle.walks.proofs.Words.{URA, fullShare, SProp, ent, ftrue, flft, fobs, fauth, fbor, fobor, Heap, Calls, Loops, WpFn, Tables, Atoms, fact, WpFn-mono}
+use Rattle.walks.proofs.Words.{_≡_, refl, sym, ap, subst, ℕ, List, [], _∷_, length, URA, fullShare, SProp, ent, ftrue, flft, fobs, fauth, fbor, fobor, Heap, Calls, Loops, WpFn, Tables, Atoms, fact, WpFn-mono}
 use Rattle.walks.proofs.Words.{Ty, Fn, MBody, Local, named, mut, tyUnit, tyRef, Val, vunit}
 use Rattle.walks.proofs.Words.{Given, Item, ‵, _⊛_, ⋆, runs, atRet, Sq, _$_, _∵_, !, qed, move, drop, split, join, fsplit, fjoin, feqI, suffices, frame, done, init, enter, params1, pass1, pass0}
 use Rattle.walks.proofs.Words.{yes, owns, pureI, Is, pointee, Nothing, RefT, now, plain, mutSliceOf, sliceTy, sliceVal, MutSlice, heres, Room, slice-vals, mut-slice-tells, at-slice, codedHoleys, Held, cells, opens-slice}
@@ -13,7 +13,7 @@ use Rattle.walks.proofs.Words.{nothing, Vals, onEntry, Meets, Clauses, 
 use Rattle.walks.proofs.Datum.{Datum, row, Law}
 use Rattle.walks.proofs.Row.{R}
 use Rattle.walks.proofs.Locals.{values, Lies, bare, has, Places, placed, lies, opens, locals-last, locals-first}
-use Rattle.walks.proofs.Looking.{One, v}
+use Rattle.walks.proofs.Looking.{One, one, reg, v}
 
 -- ---- the code
 abbrev pub regTy : Ty
@@ -53,7 +53,7 @@ module _ (X : Datum) (XL : Law X) (Need : List Station → X .D → Type 0) (F :
     (W : Given 𝓤 H A) where
   module _ (e : One) (x : X .D) where
     abbrev args : RefT (List Station) × (X .D × Unit {0})
-    args = (e .reg, (x, tt))
+    args = (reg e, (x, tt))
 
     abbrev at : Vals (ended X .signature) (e .κ, tt)
     at = (v e ∷ [], (XL .val x ∷ [], tt))
@@ -63,21 +63,22 @@ module _ (X : Datum) (XL : Law X) (Need : List Station → X .D → Type 0) (F :
 
     -- [the register's row; its open borrow; obs; auth]
     abbrev pub Open : List Station → List (Item 𝓤) → List (Item 𝓤)
-    Open zs Γ = ‵ (cells R fullShare zs (e .reg .ptr .0) (e .reg .ptr .1)) ∷ ‵ (fobor (e .κ) (e .q) (Held R (length (e .reg .now)) (e .reg .ptr .0) (e .reg .ptr .1) (e .reg .name)))
-        ∷ ‵ (fobs (e .reg .name) (codedHoleys R .code (heres R (e .reg .now)))) ∷ ‵ (fauth (e .reg .name) (codedHoleys R .code (heres R (e .reg .now)))) ∷ Γ
+    Open zs Γ = ‵ (cells R fullShare zs (e .b) (e .o)) ∷ ‵ (fobor (e .κ) (e .q) (Held R (length (e .ys)) (e .b) (e .o) (e .γ)))
+        ∷ ‵ (fobs (e .γ) (codedHoleys R .code (heres R (e .ys)))) ∷ ‵ (fauth (e .γ) (codedHoleys R .code (heres R (e .ys)))) ∷ Γ
 
     -- [what the register is now; its borrow; the token]
     abbrev Closed : List Station → List (Item 𝓤)
-    Closed zs = ‵ (fobs (e .reg .name) (codedHoleys R .code (heres R zs))) ∷ ‵ (fbor (e .κ) (Held R (length zs) (e .reg .ptr .0) (e .reg .ptr .1) (e .reg .name)))
+    Closed zs = ‵ (fobs (e .γ) (codedHoleys R .code (heres R zs))) ∷ ‵ (fbor (e .κ) (Held R (length zs) (e .b) (e .o) (e .γ)))
         ∷ ‵ (flft (e .κ) (e .q)) ∷ []
 
-    pub exits : (zs : List Station) → length zs ≡ length (e .reg .now) → zs ≡ F (e .reg .now) x → ent 𝓤 (⋆ 𝓤 H A (Closed zs)) (Post vunit)
+    pub exits : (zs : List Station) → length zs ≡ length (e .ys) → zs ≡ F (e .ys) x → ent 𝓤 (⋆ 𝓤 H A (Closed zs)) (Post vunit)
     exits zs l is =
         qed W (Closed zs) ∵
-        suffices ! _ (ends-at 𝓤 H A (ended X) (stayed X) (clauses X Need F 𝓤) W (((e .κ, tt), (e .q, tt), tt, args, at), tt) vunit tt (zs, (tt, tt)) (l, (tt, tt))) $ says ! is $
+        suffices ! _ (ends-at 𝓤 H A (ended X) (stayed X) (clauses X Need F 𝓤) W (((e .κ, tt), (e .q, tt), tt, args, at), tt) vunit tt (zs, (tt, tt)) (l, (tt, tt))) $
+        says ! is $
         nothing ! $ move ! (3 ∷ 0 ∷ []) $ join ! $ frame ! $
-        fjoin ! $ pureI ! (at-slice R (record { ptr = e .reg .ptr; name = e .reg .name; now = zs }) (at .0)) (tt, (tt, tt))
-        (ap (λ (m : ℕ). sliceVal (e .reg .ptr) m ∷ []) (sym l), subst (Room R) (sym l) (e .room)) $ fjoin ! $
+        fjoin ! $ pureI ! (at-slice R (record { ptr = (e .b, e .o); name = e .γ; now = zs }) (at .0)) (tt, (tt, tt))
+        (ap (λ (m : ℕ). sliceVal (e .b, e .o) m ∷ []) (sym l), subst (Room R) (sym l) (e .room)) $ fjoin ! $
         nothing ! $ nothing ! $ fjoin ! $ move ! (1 ∷ 0 ∷ []) $ fjoin ! $ frame ! $ feqI ! (List Val) (vunit ∷ []) (vunit ∷ []) refl $ done !
 
     module _ (C : Calls 𝓤 H) (Λ : Loops 𝓤 H) (more : List Ty) (body : MBody) where
@@ -86,7 +87,7 @@ module _ (X : Datum) (XL : Law X) (Need : List Station → X .D → Type 0) (F :
 
       -- a run of f's body, from where the register is open, and it has its locals
       abbrev pub Runs : Type 1
-      Runs = (l : Places (locals X more)) → Sq W (Open (e .reg .now) (lies (placed (locals X more) l) Passed []))
+      Runs = (l : Places (locals X more)) → Sq W (Open (e .ys) (lies (placed (locals X more) l) Passed []))
           (runs C Λ (placed (locals X more) l) body (atRet (placed (locals X more) l) Post))
 
       begins : Is (row X) x (XL .val x ∷ []) → Runs → ent 𝓤 (onEntry 𝓤 H A (ended X .signature) (e .κ, tt) (e .q, tt) args at)
@@ -100,7 +101,7 @@ module _ (X : Datum) (XL : Law X) (Need : List Station → X .D → Type 0) (F :
           move ! (2 ∷ 3 ∷ 4 ∷ 5 ∷ 6 ∷ 7 ∷ 0 ∷ 1 ∷ []) $
           locals-first ! (placed (values more) (l .1 .1 .1)) [] (lies (placed (locals X []) (l .0, (l .1 .0, (l .1 .1 .0, tt)))) Passed Lent) $
           locals-last ! (placed (locals X more) l) Passed Lent $ fsplit ! $ drop ! $ fsplit ! $
-          opens-slice ! tt R (e .reg .now) (e .reg .ptr .0) (e .reg .ptr .1) $ run l)
+          opens-slice ! tt R (e .ys) (e .b) (e .o) $ run l)
         where
           Alive : Item 𝓤
           Alive = ‵ (flft (e .κ) (e .q)) ⊛ ‵ ftrue
@@ -109,14 +110,14 @@ module _ (X : Datum) (XL : Law X) (Need : List Station → X .D → Type 0) (F :
           Had = ‵ (owns (MutSlice (named 0) (e .κ) R ∷ row X ∷ []) args at)
 
           Lent : List (Item 𝓤)
-          Lent = ‵ (MutSlice (named 0) (e .κ) R .own (e .reg) (v e ∷ [])) ∷ ‵ (flft (e .κ) (e .q)) ∷ []
+          Lent = ‵ (MutSlice (named 0) (e .κ) R .own (reg e) (v e ∷ [])) ∷ ‵ (flft (e .κ) (e .q)) ∷ []
 
   module _ (𝓣 : Tables 𝓤 H) (more : List Ty) (body : MBody)
-      (walk : (e : One) (x : X .D) → Is (row X) x (XL .val x ∷ []) → Need (e .reg .now) x → Runs e x (𝓣 .C) (𝓣 .Λ) more body) where
+      (walk : (e : One) (x : X .D) → Is (row X) x (XL .val x ∷ []) → Need (e .ys) x → Runs e x (𝓣 .C) (𝓣 .Λ) more body) where
     walks : Walks 𝓤 H A (ended X) (stayed X) (WpFn 𝓤 H (𝓣 .C) (𝓣 .Λ) (change X more body)) (clauses X Need F 𝓤)
     walks = walked 𝓤 H A (ended X) (stayed X) (clauses X Need F 𝓤) (WpFn 𝓤 H (𝓣 .C) (𝓣 .Λ) (change X more body)) (λ κs. (slice-vals, ((λ x. XL .val x ∷ []), tt)))
         (λ κs. (mut-slice-tells (named 0) (κs .0) R, (XL .tells, tt)))
-        (λ κs qs bounds a g are. let e : One = record { κ = κs .0; q = qs .0; reg = a .0; room = are .0 .0 .1 } in
+        (λ κs qs bounds a g are. let e : One = one (κs .0) (qs .0) (a .0) (are .0 .0 .1) in
         needs 𝓤 (Need (a .0 .now) (a .1 .0)) _ (λ need. begins e (a .1 .0) (𝓣 .C) (𝓣 .Λ) more body (are .1 .0) (walk e (a .1 .0) (are .1 .0) need)))
 
     pub meets-by : Meets 𝓤 H A (ended X .signature) (WpFn 𝓤 H (𝓣 .C) (𝓣 .Λ) (change X more body)) (closing 𝓤 H A (ended X) (clauses X Need F 𝓤))

@@ -1,16 +1,13 @@
 -- A stage (`Stage.antt`) that is the one or the other of two stages, by a covered test:
 --     fn f(reg: &mut [Station], book: &mut [u16], x: X) -> Y { if t(x) { return g(reg, book, x); } h(reg, book, x) }
 -- at any plain X and Y: f says whatever follows from what g says where the test holds (`by-g`), and from what h says where it does not (`by-h`).
---     function     f's MIR.        TheTest      the test's contract.        meets        f meets its contract, from those of t, g and h
+--     more, body   f's further locals, and its MIR.        TheTest      the test's contract.        meets        f meets its contract, from those of t, g and h
 -- Assumes `Given`.
-use Rattle.walks.proofs.Words.{_≡_, refl, ap, _∙_, ℕ, Bool, true, false, List, [], _∷_, length}
-use Rattle.walks.proofs.Words.{URA, fullShare, emp, fat, Heap, WpFn, Tables, Atoms, fmOf}
-use Rattle.walks.proofs.Words.{Name, Fn, MBody, w16, tyInt, tyBool, place, copy, seq, cond, skip, call, return, MBody, Ty, Val, vbool}
+use Rattle.walks.proofs.Words.{_≡_, refl, ap, _∙_, ℕ, Bool, true, false, List, [], _∷_, length, URA, fullShare, emp, fat, Heap, WpFn, Tables, Atoms, fmOf}
+use Rattle.walks.proofs.Words.{Name, MBody, w16, tyInt, tyBool, place, copy, seq, cond, skip, call, return, Ty, Val, vbool}
 use Rattle.walks.proofs.Words.{Given, ‵, atRet, _$_, !, by, rewrite, skips, branches, look, init, stop, from, and-then, no-more, first, land, returns, returns-within, exec}
-use Rattle.walks.proofs.Words.{bool-lawful, plain, only, Contract, Triple, Meets, closing, Station, plain}
-use Rattle.ship.proofs.Station.Laws as T′
-use Rattle.walks.proofs.Datum.{Datum, row, Law}
-use Rattle.walks.proofs.Truth.{truth, is-true, is-false}
+use Rattle.walks.proofs.Words.{bool-lawful, plain, only, Contract, Triple, Meets, closing, Station, stationTy}
+use Rattle.walks.proofs.Datum.{Datum, row, Law, truth, is-true, is-false}
 use Rattle.walks.proofs.Locals.{placed, bare, has, leaves, read}
 use Rattle.walks.proofs.Again.{relend, relends}
 use Rattle.walks.proofs.Asking.{The, asks-one}
@@ -21,15 +18,13 @@ more = tyBool ∷ regAt ∷ regAgain ∷ bookAt ∷ bookAgain ∷ regAt ∷ regA
 
 -- by way of the locals from the i-th on
 abbrev arm : Name → ℕ → ℕ → ℕ → ℕ → MBody
-arm #g i j k l = relend T′.mir 1 i j (relend (tyInt w16) 2 k l (seq (call #g (copy (place j []) ∷ copy (place l []) ∷ copy (place 3 []) ∷ []) (place 0 [])) return))
+arm #g i j k l = relend stationTy 1 i j (relend (tyInt w16) 2 k l (seq (call #g (copy (place j []) ∷ copy (place l []) ∷ copy (place 3 []) ∷ []) (place 0 [])) return))
 
 abbrev body : Name → Name → Name → MBody
 body #t #g #h = seq (call #t (copy (place 3 []) ∷ []) (place 4 [])) (seq (cond (copy (place 4 [])) (arm #g 5 6 7 8) skip) (arm #h 9 10 11 12))
 
-abbrev pub function : Datum → Datum → Name → Name → Name → Fn
-function X Y #t #g #h = stage X Y more (body #t #g #h)
-
-module _ (X : Datum) (XL : Law X) (Y : Datum) (YL : Law Y) (p : X .D → Bool) (NeedG : Needs X) (TG : Says X Y) (NeedH : Needs X) (TH : Says X Y) (Need : Needs X) (T : Says X Y)
+module _ (X : Datum) (XL : Law X) (Y : Datum) (YL : Law Y) (p : X .D → Bool) (NeedG : Needs X) (TG : Says X Y) (NeedH : Needs X) (TH : Says X Y) (Need : Needs X)
+    (T : Says X Y)
     (for-g : (ys : List Station) (bs : List ℕ) (x : X .D) → Need ys bs x → p x ≡ true → NeedG ys bs x)
     (for-h : (ys : List Station) (bs : List ℕ) (x : X .D) → Need ys bs x → p x ≡ false → NeedH ys bs x)
     (by-g : (ys : List Station) (bs : List ℕ) (x : X .D) (r : Y .D) (zs : List Station) (cs : List ℕ) → Need ys bs x → p x ≡ true → TG x ys bs r zs cs
@@ -42,7 +37,7 @@ module _ (X : Datum) (XL : Law X) (Y : Datum) (YL : Law Y) (p : X .D → Bool) (
 
   pub meets : (W : Given 𝓤 H A) (𝓣 : Tables 𝓤 H) → Triple 𝓤 (𝓣 .C #t) TheTest → Triple 𝓤 (𝓣 .C #g) (TheStage X Y NeedG TG 𝓤 H A)
       → Triple 𝓤 (𝓣 .C #h) (TheStage X Y NeedH TH 𝓤 H A)
-      → Meets 𝓤 H A (ended X Y .signature) (WpFn 𝓤 H (𝓣 .C) (𝓣 .Λ) (function X Y #t #g #h)) (closing 𝓤 H A (ended X Y) (clauses X Y Need T 𝓤 H A))
+      → Meets 𝓤 H A (ended X Y .signature) (WpFn 𝓤 H (𝓣 .C) (𝓣 .Λ) (stage X Y more (body #t #g #h))) (closing 𝓤 H A (ended X Y) (clauses X Y Need T 𝓤 H A))
   meets W 𝓣 k-t k-g k-h = meets-by X XL Y YL Need T 𝓤 H A W 𝓣 more (body #t #g #h) (λ t x gx need l.
       -- [the register; κ; the book; κ₁; _12; …; _0]
       asks-one 𝓤 H A W X XL truth p x (XL .val x) gx (fmOf 𝓤 H (W .laws) 𝓣) k-t (and-then ! (read ! 23 refl) (no-more !)) (λ y u e gy.

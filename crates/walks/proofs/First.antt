@@ -2,17 +2,12 @@
 --     fn f(reg: &mut [Station], book: &mut [u16], x: X) -> Y { u(reg, x); h(reg, book, x) }
 -- at any plain X and Y, any `fn u(reg: &mut [Station], x: X)` that says `now (reg .exit) ≡ U (now (reg .entry)) x`, and any stage h: f says whatever follows from what
 -- h says of the updated register (`comes-to`).
---     function     f's MIR.        TheUpdate    u's contract.        meets        f meets its contract, from those of u and h
+--     more, body   f's further locals, and its MIR.        TheUpdate    u's contract.        meets        f meets its contract, from those of u and h
 -- Assumes `Given`.
-use Rattle.walks.proofs.Words.{_≡_, refl, sym, subst, _∙_, ℕ, List, [], _∷_, length}
-use Rattle.walks.proofs.Words.{URA, Heap, WpFn, Tables, Atoms, fmOf}
-use Rattle.walks.proofs.Words.{Name, Fn, named, w16, tyInt, tyUnit, place, copy, seq, call, return, MBody, Ty}
-use Rattle.walks.proofs.Words.{Given, _$_, !, by, look, init, stop, from, and-then, no-more, land, returns}
-use Rattle.walks.proofs.Words.{nothing-lawful, Contract, Triple, Meets, closing, Station, plain}
-use Rattle.ship.proofs.Station.Laws as T′
-use Rattle.walks.proofs.Datum.{Datum, row, Law}
+use Rattle.walks.proofs.Words.{_≡_, refl, sym, subst, _∙_, ℕ, List, [], _∷_, length, URA, Heap, WpFn, Tables, Atoms, fmOf, Name, named, w16, tyInt, tyUnit, place, copy, seq, call, return, MBody, Ty}
+use Rattle.walks.proofs.Words.{Given, _$_, !, by, look, init, stop, from, and-then, no-more, land, returns, nothing-lawful, Contract, Triple, Meets, closing, Station, plain, stationTy}
+use Rattle.walks.proofs.Datum.{Datum, row, Law, void}
 use Rattle.walks.proofs.Row.{R}
-use Rattle.walks.proofs.Truth.{void}
 use Rattle.walks.proofs.Locals.{has, leaves, read}
 use Rattle.walks.proofs.Again.{relend, relends}
 use Rattle.walks.proofs.Asking.{had-one}
@@ -23,11 +18,8 @@ abbrev more : List Ty
 more = tyUnit ∷ regAt ∷ regAgain ∷ regAt ∷ regAgain ∷ bookAt ∷ bookAgain ∷ []
 
 abbrev body : Name → Name → MBody
-body #u #h = relend T′.mir 1 5 6 (seq (call #u (copy (place 6 []) ∷ copy (place 3 []) ∷ []) (place 4 []))
-    (relend T′.mir 1 7 8 (relend (tyInt w16) 2 9 10 (seq (call #h (copy (place 8 []) ∷ copy (place 10 []) ∷ copy (place 3 []) ∷ []) (place 0 [])) return))))
-
-abbrev pub function : Datum → Datum → Name → Name → Fn
-function X Y #u #h = stage X Y more (body #u #h)
+body #u #h = relend stationTy 1 5 6 (seq (call #u (copy (place 6 []) ∷ copy (place 3 []) ∷ []) (place 4 []))
+    (relend stationTy 1 7 8 (relend (tyInt w16) 2 9 10 (seq (call #h (copy (place 8 []) ∷ copy (place 10 []) ∷ copy (place 3 []) ∷ []) (place 0 [])) return))))
 
 module _ (X : Datum) (XL : Law X) (Y : Datum) (YL : Law Y) (NeedU : List Station → X .D → Type 0) (U : List Station → X .D → List Station) (NeedH : Needs X) (TH : Says X Y)
     (Need : Needs X) (T : Says X Y) (for-u : (ys : List Station) (bs : List ℕ) (x : X .D) → Need ys bs x → NeedU ys x)
@@ -39,7 +31,7 @@ module _ (X : Datum) (XL : Law X) (Y : Datum) (YL : Law Y) (NeedU : List Station
   TheUpdate = TheLent R (plain (λ _. row X) ∷ []) void (λ κs zs a. NeedU zs (a .0)) (λ κs zs a r us. us ≡ U zs (a .0)) 𝓤 H A
 
   pub meets : (W : Given 𝓤 H A) (𝓣 : Tables 𝓤 H) → Triple 𝓤 (𝓣 .C #u) TheUpdate → Triple 𝓤 (𝓣 .C #h) (TheStage X Y NeedH TH 𝓤 H A)
-      → Meets 𝓤 H A (ended X Y .signature) (WpFn 𝓤 H (𝓣 .C) (𝓣 .Λ) (function X Y #u #h)) (closing 𝓤 H A (ended X Y) (clauses X Y Need T 𝓤 H A))
+      → Meets 𝓤 H A (ended X Y .signature) (WpFn 𝓤 H (𝓣 .C) (𝓣 .Λ) (stage X Y more (body #u #h))) (closing 𝓤 H A (ended X Y) (clauses X Y Need T 𝓤 H A))
   meets W 𝓣 k-u k-h = meets-by X XL Y YL Need T 𝓤 H A W 𝓣 more (body #u #h) (λ t x gx need l.
       -- [the register; κ; the book; κ₁; _10; …; _0]
       relends ! 22 14 12 (t .room .0) refl refl refl refl refl refl refl refl $

@@ -3,8 +3,7 @@
 --     lending, clauses, TheLent        its signature and contract: it needs `Need`, and says `Says` of its parameters, its result, and the list that it leaves
 --     lends-at, lends-last             the step
 -- Assumes `Given`.
-use Rattle.walks.proofs.Words.{_≡_, ℕ, List, [], _∷_, length}
-use Rattle.walks.proofs.Words.{URA, fullShare, ent, emp, sep, id⊢, Lft, GName, Share, Fml, ftrue, flft, Heap, Env, Calls, Loops, Atoms, sem, Lfts, fact, FmC}
+use Rattle.walks.proofs.Words.{_≡_, ℕ, List, [], _∷_, length, URA, fullShare, ent, emp, sep, id⊢, Lft, GName, Share, Fml, ftrue, flft, Heap, Env, Calls, Loops, Atoms, sem, Lfts, fact, FmC}
 use Rattle.walks.proofs.Words.{Name, Lifetime, named, Place, Operand, MBody, seq, call, Val}
 use Rattle.walks.proofs.Words.{Given, Go, Goal, Soaks, Item, ‵, raw, some, later, _⊛_, Post, runs, lands, settles, Sq, _$_, _∵_, !, qed, move, drop, use0, use1, use2, use3, split, join, pick, fsplit, fjoin, feqL, frame, await, done, Opds, lft-new, lft-end}
 use Rattle.walks.proofs.Words.{yes, RattleType, Denots, Valss, owns, Is, shows, RefT, now, Slot, plain, mutSliceOf, typesAt, sliceVal, MutSlice, Room, facts, heard, nothing, calls-at, calls-at-last, Contract, Triple, tripleOf, Clauses, Ended, Lasts, ensured, lasts, closing, says}

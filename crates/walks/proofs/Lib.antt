@@ -18,7 +18,6 @@ pub mod Lending
 pub mod Walking
 pub mod Sweeps
 pub mod Sweeping
-pub mod Truth
 pub mod Looking
 pub mod Seeks
 pub mod Seeking

@@ -1,13 +1,13 @@
 -- The locals of a function, any list of them, where it begins and where it ends.
---     values       locals of some types.        Lies         what a local holds: room, or a value.        lies         what is had of the locals in a context, the last first, each with what frees it
---     Places       where the locals lie.        placed       the environment of a run
+--     values       locals of some types.        Places       where the locals lie.        placed       the environment of a run
+--     Lies         what a local holds: room, or a value.        lies         what is had of the locals in a context, the last first, each with what frees it
+--     opens        a function begins: each of its locals is room.        locals-last, locals-first    the locals behind what else is had, and before it
+--     leaves       it ends: the locals stand last in the context, and are freed whatever they hold
 --     read         a local as an operand, which entry n of the context holds
---     opens        a function begins: each of its locals is room.        leaves       it ends: the locals stand last in the context, and are freed whatever they hold
 -- Assumes `Given`.
 use Rattle.walks.proofs.Words.{_≡_, subst, ℕ, zero, suc, _++_, List, [], _∷_}
 use Rattle.walks.proofs.Words.{URA, fullShare, comm∗, assoc∗, assoc′, monoL, monoR, emp∗, SProp, ent, sep, emp, id⊢, via, fst∗, snd∗, fat, froom, fdies, Share, release, spotOf, Heap, Env, Atoms}
-use Rattle.walks.proofs.Words.{Local, Ty, local, valueLocal, place, copy, Val}
-use Rattle.walks.proofs.Words.{nth, Goal, Seq, Step, step, aim, mean, push, pop, ⊢++, ++⊢, allocs, frees, Given, Item, ‵, ⋆, _$_, Opd, load, from, stop, look, alloc1, alloc0}
+use Rattle.walks.proofs.Words.{Local, Ty, local, valueLocal, place, copy, Val, nth, Goal, Seq, Step, step, aim, mean, push, pop, ⊢++, ++⊢, allocs, frees, Given, Item, ‵, ⋆, _$_, Opd, load, from, stop, look, alloc1, alloc0}
 
 -- locals of these types
 abbrev pub values : List Ty → List Local
@@ -72,7 +72,8 @@ module _ {M : Type 1} (𝓤 : URA M) (H : Heap 𝓤) (A : Atoms 𝓤) where
   apart : (E : List (Ty × ℕ)) (cs : List Lies) (Γ : List (Item 𝓤)) → ent 𝓤 (⋆ 𝓤 H A (lies E cs Γ)) (sep 𝓤 (held E cs) (⋆ 𝓤 H A Γ))
   apart [] cs Γ = emp∗ 𝓤 (⋆ 𝓤 H A Γ)
   apart (e ∷ E) cs Γ =
-      via 𝓤 (sep 𝓤 (held E (others cs)) (⋆ 𝓤 H A (cell e (foremost cs) ∷ ‵ (fdies (e .0) (e .1)) ∷ Γ))) (apart E (others cs) (cell e (foremost cs) ∷ ‵ (fdies (e .0) (e .1)) ∷ Γ))
+      via 𝓤 (sep 𝓤 (held E (others cs)) (⋆ 𝓤 H A (cell e (foremost cs) ∷ ‵ (fdies (e .0) (e .1)) ∷ Γ)))
+      (apart E (others cs) (cell e (foremost cs) ∷ ‵ (fdies (e .0) (e .1)) ∷ Γ))
       (group-in 𝓤 (held E (others cs)) (mean 𝓤 H A (cell e (foremost cs))) (H .dies (e .0) (e .1)) (⋆ 𝓤 H A Γ) (⋆ 𝓤 H A (‵ (fdies (e .0) (e .1)) ∷ Γ))
       (pop 𝓤 H A (‵ (fdies (e .0) (e .1))) Γ))
 
@@ -117,7 +118,8 @@ module _ {M : Type 1} {𝓤 : URA M} {H : Heap 𝓤} {A : Atoms 𝓤} {K : Type 
   }))
 
   -- ---- at its start
-  opened : K → (ls : List Local) {Kt : Env 𝓤 H → Goal 𝓤 H} {Γ : List (Item 𝓤)} → ((p : Places ls) → Seq K W (lies (placed ls p) [] Γ) (Kt (placed ls p))) → Seq K W Γ (allocs ls Kt)
+  opened : K → (ls : List Local) {Kt : Env 𝓤 H → Goal 𝓤 H} {Γ : List (Item 𝓤)} → ((p : Places ls) → Seq K W (lies (placed ls p) [] Γ) (Kt (placed ls p))) → Seq K W Γ
+      (allocs ls Kt)
   opened t [] k = alloc0 t $ k tt
   opened t (local τ h ∷ ls) k = alloc1 t (λ b. opened t ls (λ p. k (b, p)))
 

@@ -4,9 +4,7 @@
 --     locals, look             f's locals and its MIR, at any further locals and any body.        ended, clauses   its signature and contract
 --     exits                    what a walk of a look shows at its end.        meets-by     a look meets its contract, from a walk of its body
 -- Assumes `Given`.
-use Rattle.walks.proofs.Words.{_≡_, refl, List, [], _∷_, length}
-use Rattle.walks.proofs.Words.{URA, SProp, ent, sep, Lft, Share, Fml, ftrue, flft, Heap, Calls, Loops, WpFn, Tables, Atoms, fact, WpFn-mono}
-use Rattle.walks.proofs.Words.{Ty, Fn, MBody, Local, named, Val}
+use Rattle.walks.proofs.Words.{_≡_, refl, ℕ, List, [], _∷_, length, URA, SProp, ent, sep, Lft, Share, Fml, ftrue, flft, GName, Heap, Calls, Loops, WpFn, Tables, Atoms, fact, WpFn-mono, Ty, Fn, MBody, Local, named, Val}
 use Rattle.walks.proofs.Words.{Given, Item, ‵, _⊛_, ⋆, runs, atRet, Sq, _$_, _∵_, !, qed, move, drop, split, join, fsplit, fjoin, suffices, frame, done, init, enter, params1, pass1, pass0}
 use Rattle.walks.proofs.Words.{yes, owns, Is, RefT, now, plain, shrSliceOf, sliceVal, ShrSlice, Room, slice-vals, shr-slice-tells, owned, nothing, Vals, onEntry, Meets, Clauses, Ended, closing, says, Stays, stay-dropped, walkOf, Walks, ends-at, walked, goes-dropped, walk-meets, Station}
 use Rattle.walks.proofs.Datum.{Datum, row, Law}
@@ -44,22 +42,31 @@ module _ (Q Y : Datum) (F : List Station → Q .D → Y .D) {M : Type 1} (𝓤 :
 pub record One : Type 0 where
   pub κ : Lft
   pub q : Share
-  pub reg : RefT (List Station)
-  pub room : Room R (length (reg .now))
+  pub b : ℕ
+  pub o : ℕ
+  pub γ : GName
+  pub ys : List Station
+  pub room : Room R (length ys)
+
+abbrev pub one : Lft → Share → (a : RefT (List Station)) → Room R (length (a .now)) → One
+one κ q a g = record { κ = κ; q = q; b = a .ptr .0; o = a .ptr .1; γ = a .name; ys = a .now; room = g }
 
 module _ (e : One) where
+  abbrev pub reg : RefT (List Station)
+  reg = record { ptr = (e .b, e .o); name = e .γ; now = e .ys }
+
   abbrev pub v : Val
-  v = sliceVal (e .reg .ptr) (length (e .reg .now))
+  v = sliceVal (e .b, e .o) (length (e .ys))
 
   abbrev pub Reg : Fml
-  Reg = ShrSlice (named 0) (e .κ) R .own (e .reg) (v ∷ [])
+  Reg = ShrSlice (named 0) (e .κ) R .own reg (v ∷ [])
 
 -- ---- a walk of a look
 module _ (Q : Datum) (QL : Law Q) (Y : Datum) (YL : Law Y) (F : List Station → Q .D → Y .D) {M : Type 1} (𝓤 : URA M) (Pre : List Station → Q .D → SProp 𝓤) (H : Heap 𝓤)
     (A : Atoms 𝓤) (W : Given 𝓤 H A) where
   module _ (e : One) (k : Q .D) where
     abbrev args : RefT (List Station) × (Q .D × Unit {0})
-    args = (e .reg, (k, tt))
+    args = (reg e, (k, tt))
 
     abbrev at : Vals (ended Q Y .signature) (e .κ, tt)
     at = (v e ∷ [], (QL .val k ∷ [], tt))
@@ -67,7 +74,7 @@ module _ (Q : Datum) (QL : Law Q) (Y : Datum) (YL : Law Y) (F : List Station →
     abbrev pub Post : Val → SProp 𝓤
     Post = walkOf 𝓤 H A (ended Q Y) (stayed Q Y) (clauses Q Y F 𝓤 Pre) .post (((e .κ, tt), (e .q, tt), tt, args, at), tt)
 
-    pub exits : (r : Y .D) (u : Val) → Is (row Y) r (u ∷ []) → r ≡ F (e .reg .now) k → ent 𝓤 (⋆ 𝓤 H A (‵ (Reg e) ∷ ‵ (flft (e .κ) (e .q)) ∷ [])) (Post u)
+    pub exits : (r : Y .D) (u : Val) → Is (row Y) r (u ∷ []) → r ≡ F (e .ys) k → ent 𝓤 (⋆ 𝓤 H A (‵ (Reg e) ∷ ‵ (flft (e .κ) (e .q)) ∷ [])) (Post u)
     exits r u gr is =
         qed W (‵ (Reg e) ∷ ‵ (flft (e .κ) (e .q)) ∷ []) ∵ drop ! $
         suffices ! _ (ends-at 𝓤 H A (ended Q Y) (stayed Q Y) (clauses Q Y F 𝓤 Pre) W (((e .κ, tt), (e .q, tt), tt, args, at), tt) u r (tt, (tt, tt)) (tt, (tt, tt))) $
@@ -107,11 +114,11 @@ module _ (Q : Datum) (QL : Law Q) (Y : Datum) (YL : Law Y) (F : List Station →
   -- Need is what Pre says
   module _ (Need : List Station → Q .D → Type 0) (opening : (ys : List Station) (k : Q .D) (P Z : SProp 𝓤) → (Need ys k → ent 𝓤 P Z) → ent 𝓤 (sep 𝓤 P (Pre ys k)) Z)
       (𝓣 : Tables 𝓤 H) (more : List Ty) (body : MBody)
-      (walk : (e : One) (k : Q .D) → Is (row Q) k (QL .val k ∷ []) → Need (e .reg .now) k → Runs e k (𝓣 .C) (𝓣 .Λ) more body) where
+      (walk : (e : One) (k : Q .D) → Is (row Q) k (QL .val k ∷ []) → Need (e .ys) k → Runs e k (𝓣 .C) (𝓣 .Λ) more body) where
     walks : Walks 𝓤 H A (ended Q Y) (stayed Q Y) (WpFn 𝓤 H (𝓣 .C) (𝓣 .Λ) (look Q Y more body)) (clauses Q Y F 𝓤 Pre)
     walks = walked 𝓤 H A (ended Q Y) (stayed Q Y) (clauses Q Y F 𝓤 Pre) (WpFn 𝓤 H (𝓣 .C) (𝓣 .Λ) (look Q Y more body)) (λ κs. (slice-vals, ((λ x. QL .val x ∷ []), tt)))
         (λ κs. (shr-slice-tells (named 0) (κs .0) R, (QL .tells, tt)))
-        (λ κs qs bounds a g are. let e : One = record { κ = κs .0; q = qs .0; reg = a .0; room = are .0 .0 .1 } in
+        (λ κs qs bounds a g are. let e : One = one (κs .0) (qs .0) (a .0) (are .0 .0 .1) in
         opening (a .0 .now) (a .1 .0) _ _ (λ need. begins e (a .1 .0) (𝓣 .C) (𝓣 .Λ) more body (are .1 .0) (walk e (a .1 .0) (are .1 .0) need)))
 
     pub meets-by : Meets 𝓤 H A (ended Q Y .signature) (WpFn 𝓤 H (𝓣 .C) (𝓣 .Λ) (look Q Y more body)) (closing 𝓤 H A (ended Q Y) (clauses Q Y F 𝓤 Pre))

@@ -3,8 +3,7 @@
 --     TheByOne, reads-one          of `fn g(s: &[E], x: X) -> Y`
 --     TheByBoth, reads-both        of `fn g(reg: &[Station], book: &[u16], x: X) -> Y`
 -- Assumes `Given`.
-use Rattle.walks.proofs.Words.{_≡_, ℕ, List, [], _∷_, length}
-use Rattle.walks.proofs.Words.{URA, fullShare, emp, id⊢, Lft, Share, GName, Fml, ftrue, flft, Heap, Env, Calls, Loops, Atoms, toks, fact, factI, FmC}
+use Rattle.walks.proofs.Words.{_≡_, ℕ, List, [], _∷_, length, URA, fullShare, emp, id⊢, Lft, Share, GName, Fml, ftrue, flft, Heap, Env, Calls, Loops, Atoms, toks, fact, factI, FmC}
 use Rattle.walks.proofs.Words.{Name, MBody, named, seq, call, Place, Operand, Lifetime, Val}
 use Rattle.walks.proofs.Words.{Given, Item, lands, ‵, raw, some, later, _⊛_, Go, Post as Goes, runs, Sq, _$_, !, move, drop, use1, use2, split, join, pick, fjoin, await, Opds, lft-new, lft-end}
 use Rattle.walks.proofs.Words.{Is, u16, now, sliceVal, ShrSlice, Room, Slot, plain, shrSliceOf, owned, nothing, Contract, Triple, Station, RattleType, MutSlice, RefT}
@@ -18,7 +17,8 @@ use Rattle.walks.proofs.Stage.{Needs, Two, v, v₁, Reg, Book, Holds}
 abbrev slots : RattleType → Datum → List (Slot 1)
 slots E X = shrSliceOf (0 ∷ []) tt (plain (λ _. E)) ∷ plain (λ _. row X) ∷ []
 
-module _ (E : RattleType) (X Y : Datum) (Need : List (E .Denot) → X .D → Type 0) (F : List (E .Denot) → X .D → Y .D) {M : Type 1} (𝓤 : URA M) (H : Heap 𝓤) (A : Atoms 𝓤) where
+module _ (E : RattleType) (X Y : Datum) (Need : List (E .Denot) → X .D → Type 0) (F : List (E .Denot) → X .D → Y .D) {M : Type 1} (𝓤 : URA M) (H : Heap 𝓤)
+    (A : Atoms 𝓤) where
   abbrev pub TheByOne : Contract 𝓤
   TheByOne = The 𝓤 H A 1 (slots E X) Y (λ κs a. fact 𝓤 (Need (now (a .0)) (a .1 .0))) (λ κs a. F (now (a .0)) (a .1 .0))
 
@@ -37,13 +37,16 @@ module _ (E : RattleType) (X Y : Datum) (Need : List (E .Denot) → X .D → Typ
           → Sq W (‵ Slice ∷ ‵ (flft κ q) ∷ Γ) (runs C Λ En (seq (call #g xs d) rest) p)
       reads-one fm known os′ k =
           lft-new ! tt (λ μ. move ! (1 ∷ 2 ∷ []) $ use2 W (later (some (λ (ε : GName). ‵ (ShrSlice (named 0) (μ ∷ []) E .own (record { ptr = (b, o); name = ε; now = ys })
-          (sliceVal (b, o) (length ys) ∷ [])) ⊛ ‵ (Lent.Kept E κ (μ ∷ []) q γ b o ys)))) (Lent.lends E κ (μ ∷ []) q γ b o ys 𝓤 H A W ℓ (named 0)) $ await ! tt $ pick ! (λ ε.
+          (sliceVal (b, o) (length ys) ∷ [])) ⊛ ‵ (Lent.Kept E κ (μ ∷ []) q γ b o ys)))) (Lent.lends E κ (μ ∷ []) q γ b o ys 𝓤 H A W ℓ (named 0)) $ await ! tt $
+          pick ! (λ ε.
           split ! $ nothing ! $ owned ! (row X) (Is (row X)) (XL .make 𝓤 H A W) x (u ∷ []) is $ fjoin ! $ move ! (1 ∷ 0 ∷ []) $ fjoin ! $ nothing ! $ move ! (3 ∷ 0 ∷ []) $
           join ! $ use1 W (raw (toks 𝓤 A 1 (μ ∷ [], tt) (fullShare, tt))) (id⊢ 𝓤 _) $
           asks 𝓤 H A 1 (slots E X) Y (λ κs a. fact 𝓤 (Need (now (a .0)) (a .1 .0))) (λ κs a. F (now (a .0)) (a .1 .0)) W (μ ∷ [], tt) (fullShare, tt)
-          (record { ptr = (b, o); name = ε; now = ys }, (x, tt)) (sliceVal (b, o) (length ys) ∷ [], (u ∷ [], tt)) fm known (factI 𝓤 (Need ys x) (emp 𝓤) ok) (os′ μ ε) (λ r w e g.
+          (record { ptr = (b, o); name = ε; now = ys }, (x, tt)) (sliceVal (b, o) (length ys) ∷ [], (u ∷ [], tt)) fm known (factI 𝓤 (Need ys x) (emp 𝓤) ok) (os′ μ ε)
+          (λ r w e g.
           use1 W (‵ (flft (μ ∷ []) fullShare) ⊛ ‵ ftrue) (id⊢ 𝓤 _) $ split ! $ move ! (1 ∷ []) $ drop ! $ lft-end ! tt $
-          move ! (0 ∷ 1 ∷ []) $ use2 W (later (‵ Slice ⊛ ‵ (flft κ q))) (Lent.comes-back E κ (μ ∷ []) q γ b o ys 𝓤 H A W ℓ (named 0) room) $ await ! tt $ split ! $ k r w e g)))
+          move ! (0 ∷ 1 ∷ []) $ use2 W (later (‵ Slice ⊛ ‵ (flft κ q))) (Lent.comes-back E κ (μ ∷ []) q γ b o ys 𝓤 H A W ℓ (named 0) room) $ await ! tt $ split ! $
+          k r w e g)))
 
 -- ---- g(reg, book, x)
 abbrev slots-both : Datum → List (Slot 2)
@@ -82,7 +85,8 @@ module _ (X Y : Datum) (Need : Needs X) (F : List Station → List ℕ → X .D 
           (Lent.lends u16 (t .κ₁) (μ ∷ []) (t .q₁) (t .γ₁) (t .b₁) (t .o₁) (t .bs) 𝓤 H A W (named 1) (named 1)) $ await ! tt $ pick ! (λ ε. split ! $
           nothing ! $ owned ! (row X) (Is (row X)) (XL .make 𝓤 H A W) x (u ∷ []) is $ fjoin ! $ move ! (1 ∷ 0 ∷ []) $ fjoin ! $ move ! (2 ∷ 0 ∷ []) $ fjoin ! $
           -- [what is handed over; what is kept of the book; of the register; μ; ν; …]
-          nothing ! $ move ! (4 ∷ 0 ∷ []) $ join ! $ move ! (4 ∷ 0 ∷ []) $ join ! $ use1 W (raw (toks 𝓤 A 2 (ν ∷ [], (μ ∷ [], tt)) (fullShare, (fullShare, tt)))) (id⊢ 𝓤 _) $
+          nothing ! $ move ! (4 ∷ 0 ∷ []) $ join ! $ move ! (4 ∷ 0 ∷ []) $ join ! $ use1 W (raw (toks 𝓤 A 2 (ν ∷ [], (μ ∷ [], tt)) (fullShare, (fullShare, tt))))
+          (id⊢ 𝓤 _) $
           asks 𝓤 H A 2 (slots-both X) Y (λ κs a. fact 𝓤 (Need (now (a .0)) (now (a .1 .0)) (a .1 .1 .0))) (λ κs a. F (now (a .0)) (now (a .1 .0)) (a .1 .1 .0)) W
           (ν ∷ [], (μ ∷ [], tt)) (fullShare, (fullShare, tt)) (seen δ, (seen₁ ε, (x, tt))) (v t ∷ [], (v₁ t ∷ [], (u ∷ [], tt))) fm known
           (factI 𝓤 (Need (t .ys) (t .bs) x) (emp 𝓤) ok) (os′ ν μ δ ε) (λ r w e g.

@@ -7,9 +7,8 @@ use Rattle.walks.proofs.Words.{_≡_, refl, sym, ap, _∙_, ℕ, _<_, L
 use Rattle.walks.proofs.Words.{URA, fullShare, SProp, ent, emp, id⊢, Lft, Share, ftrue, fat, flft, Heap, WpFn, Tables, Atoms, Lfts, Shares, toks, fact, FmC, fmOf, WpFn-mono}
 use Rattle.walks.proofs.Words.{Name, Fn, named, w64, tyInt, tyPtr, place, field, deref, unsigned, copy as copyᴹ, int, seq, assign, call, return, rvOpd, op2, mul, offset, Val, vint, vptr}
 use Rattle.walks.proofs.Words.{Given, ‵, raw, _⊛_, ⋆, _$_, _∵_, !, qed, by, move, drop, use0, split, join, rewrite, fsplit, fjoin, suffices, frame, done, whole, sub, look-in, look, look-raw, init, stop, hop, fld, from, load, lit, of-opd, bin, and-then, no-more, assigns, land, returns, enter, params1, pass1, pass0}
-use Rattle.walks.proofs.Words.{yes, owns, Is, shows, uint-lawful, RefT, now, Slot, plain, shrSliceOf, sliceVal, ShrSlice, Room, slice-vals, shr-slice-tells, place-is, elem-out, elem-back, looks-slice, shuts-slice, only}
-use Rattle.walks.proofs.Words.{owned, nothing, Vals, onEntry, Contract, Triple, Meets, Clauses, Ended, closing, says, needs, Stays, stay-dropped, walkOf, Walks, ends-at, walked, goes-dropped, walk-meets, Station, blank}
-use Rattle.ship.proofs.Station.Laws as T′
+use Rattle.walks.proofs.Words.{yes, owns, Is, shows, uint-lawful, RefT, now, Slot, plain, shrSliceOf, sliceVal, ShrSlice, Room, slice-vals, shr-slice-tells, place-is, elem-out, elem-back, looks-slice, shuts-slice, only, owned}
+use Rattle.walks.proofs.Words.{nothing, Vals, onEntry, Contract, Triple, Meets, Clauses, Ended, closing, says, needs, Stays, stay-dropped, walkOf, Walks, ends-at, walked, goes-dropped, walk-meets, Station, blank, stationTy}
 use Rattle.walks.proofs.Datum.{Datum, row, Law, number}
 use Rattle.walks.proofs.Row.{R, vals, tells, makes, copy, lawful, stride, bytes}
 use Rattle.walks.proofs.Asking.{The, asks, asks-one}
@@ -22,11 +21,11 @@ module _ (X Q Y : Datum) where
     lifetimes = 1;
     outlives = [];
     params = 3;
-    locals = values (Y .ty ∷ regTy ∷ X .ty ∷ Q .ty ∷ tyInt w64 ∷ tyInt w64 ∷ tyPtr ∷ T′.mir ∷ []);
+    locals = values (Y .ty ∷ regTy ∷ X .ty ∷ Q .ty ∷ tyInt w64 ∷ tyInt w64 ∷ tyPtr ∷ stationTy ∷ []);
     body = seq (call #at (copyᴹ (place 2 []) ∷ []) (place 4 []))
         (seq (assign (place 5 []) (op2 (mul unsigned) (copyᴹ (place 4 [])) (int w64 stride)))
         (seq (assign (place 6 []) (op2 offset (copyᴹ (place 1 (field 0 ∷ []))) (copyᴹ (place 5 []))))
-        (seq (assign (place 7 []) (rvOpd (copyᴹ (place 6 (deref T′.mir ∷ [])))))
+        (seq (assign (place 7 []) (rvOpd (copyᴹ (place 6 (deref stationTy ∷ [])))))
         (seq (call #g (copyᴹ (place 7 []) ∷ copyᴹ (place 2 []) ∷ copyᴹ (place 3 []) ∷ []) (place 0 [])) return))));
   }
 
@@ -156,7 +155,8 @@ module _ (X Q Y : Datum) (where-is : X .D → ℕ) (G : Station → X .D → Q .
           (vals s, (XL .val h ∷ [], (QL .val k ∷ [], tt))) fm k-g (id⊢ 𝓤 (emp 𝓤))
           (and-then ! (read ! 2 refl) (and-then ! (read ! 12 refl)
           (and-then ! (read ! 10 refl) (no-more !)))) (λ r y er gr. drop ! $
-          land ! (from ! (stop !)) (init ! 15 refl (YL .law 𝓤 H A W .typed r _ gr .0)) $ returns ! (look ! 15 refl) $ leaves ! 1 (has _ ∷ has _ ∷ has _ ∷ has _ ∷ has _ ∷ has _ ∷ has _ ∷ has _ ∷ []) refl $
+          land ! (from ! (stop !)) (init ! 15 refl (YL .law 𝓤 H A W .typed r _ gr .0)) $ returns ! (look ! 15 refl) $
+          leaves ! 1 (has _ ∷ has _ ∷ has _ ∷ has _ ∷ has _ ∷ has _ ∷ has _ ∷ has _ ∷ []) refl $
           by ! (exits r y gr er))))))
 
     walks : Walks 𝓤 H A (ended X Q Y) (stayed X Q Y) runs-f clauses

@@ -1,23 +1,16 @@
 -- A `Station`'s row with its laws, under short names, and where an element of a slice of them lies. Assumes nothing.
-use Rattle.walks.proofs.Words.{ℕ, _<_, _*_, _^_, List}
-use Rattle.walks.proofs.Words.{URA, Heap, Atoms}
-use Rattle.walks.proofs.Words.{Val}
-use Rattle.walks.proofs.Words.{Given}
-use Rattle.walks.proofs.Words.{RattleType, Is, Tells, Makes, Copy, Lawful, Room, Station}
+use Rattle.walks.proofs.Words.{ℕ, _<_, _*_, _^_, List, URA, Heap, Atoms, Val, Given, RattleType, Is, Tells, Makes, Copy, Lawful, Room, Station}
 use native.Mathlib.Omega.{arith}
 use denote.Struct.Laws as LL
 use Rattle.ship.proofs.Station as T
 use Rattle.ship.proofs.Station.Laws as T′
-use Rattle.walks.proofs.Datum.{Datum, Law, struct, struct-law}
+use Rattle.walks.proofs.Datum.{Datum, struct}
 
 abbrev pub R : RattleType
 R = T.the-row
 
 abbrev pub StationD : Datum
 StationD = struct T.the-type
-
-abbrev pub StationL : Law StationD
-StationL = struct-law T.the-type T′.the-laws T′.the-plain
 
 abbrev pub vals : Station → List Val
 vals = LL.vals T.the-type T′.the-laws

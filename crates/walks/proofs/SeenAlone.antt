@@ -2,14 +2,10 @@
 --     fn f(reg: &mut [Station], book: &mut [u16], x: X) -> Z { let q = first(book, x); let y = look(reg, q); last(book, q, y) }
 -- at any plain X, Q, Y and Z: first gives F of the book, look gives L of the register, and f says whatever follows from what last says, with the register as it was
 -- (`comes-to`).
---     function     f's MIR.        TheFirst, TheLook, TheLast       the callees' contracts.        meets        f meets its contract, from theirs
+--     more, body   f's further locals, and its MIR.        TheFirst, TheLook, TheLast       the callees' contracts.        meets        f meets its contract, from theirs
 -- Assumes `Given`.
-use Rattle.walks.proofs.Words.{_≡_, refl, sym, subst, ℕ, List, [], _∷_, length}
-use Rattle.walks.proofs.Words.{URA, Heap, WpFn, Tables, Atoms, fmOf}
-use Rattle.walks.proofs.Words.{Name, Ty, Fn, named, w16, tyInt, place, copy, seq, call, return, MBody, Ty}
-use Rattle.walks.proofs.Words.{Given, _$_, !, by, move, look, init, stop, from, and-then, no-more, land, returns}
-use Rattle.walks.proofs.Words.{u16, Contract, Triple, Meets, closing, Station, plain}
-use Rattle.ship.proofs.Station.Laws as T′
+use Rattle.walks.proofs.Words.{_≡_, refl, sym, subst, ℕ, List, [], _∷_, length, URA, Heap, WpFn, Tables, Atoms, fmOf, Name, Ty, named, w16, tyInt, place, copy, seq, call, return, MBody}
+use Rattle.walks.proofs.Words.{Given, _$_, !, by, move, look, init, stop, from, and-then, no-more, land, returns, u16, Contract, Triple, Meets, closing, Station, plain, stationTy}
 use Rattle.walks.proofs.Datum.{Datum, row, Law}
 use Rattle.walks.proofs.Row.{R}
 use Rattle.walks.proofs.Reading.{TheByOne, reads-one}
@@ -17,18 +13,15 @@ use Rattle.walks.proofs.Locals.{has, leaves, read}
 use Rattle.walks.proofs.Again.{relend, relends}
 use Rattle.walks.proofs.Asking.{had-two}
 use Rattle.walks.proofs.Lending.{TheLent, lends-at}
-use Rattle.walks.proofs.Stage.{regEye, regSeen, bookEye, bookSeen, bookAt, bookAgain, stage, Needs, Says, ended, clauses, exits, meets-by}
+use Rattle.walks.proofs.Stage.{stations, eye, seen, bookAt, bookAgain, stage, Needs, Says, ended, clauses, exits, meets-by}
 
 abbrev more : Datum → Datum → List Ty
-more Q Y = Q .ty ∷ Y .ty ∷ bookEye ∷ bookSeen ∷ regEye ∷ regSeen ∷ bookAt ∷ bookAgain ∷ []
+more Q Y = Q .ty ∷ Y .ty ∷ eye (tyInt w16) ∷ seen (tyInt w16) ∷ eye stations ∷ seen stations ∷ bookAt ∷ bookAgain ∷ []
 
 abbrev body : Name → Name → Name → MBody
 body #first #look #last = relend (tyInt w16) 2 6 7 (seq (call #first (copy (place 7 []) ∷ copy (place 3 []) ∷ []) (place 4 []))
-    (relend T′.mir 1 8 9 (seq (call #look (copy (place 9 []) ∷ copy (place 4 []) ∷ []) (place 5 []))
+    (relend stationTy 1 8 9 (seq (call #look (copy (place 9 []) ∷ copy (place 4 []) ∷ []) (place 5 []))
     (relend (tyInt w16) 2 10 11 (seq (call #last (copy (place 11 []) ∷ copy (place 4 []) ∷ copy (place 5 []) ∷ []) (place 0 [])) return)))))
-
-abbrev pub function : Datum → Datum → Datum → Datum → Name → Name → Name → Fn
-function X Q Y Z #first #look #last = stage X Z (more Q Y) (body #first #look #last)
 
 module _ (X : Datum) (XL : Law X) (Q : Datum) (QL : Law Q) (Y : Datum) (YL : Law Y) (Z : Datum) (ZL : Law Z) (NeedF : List ℕ → X .D → Type 0) (F : List ℕ → X .D → Q .D)
     (NeedL : List Station → Q .D → Type 0) (L : List Station → Q .D → Y .D)
@@ -49,7 +42,7 @@ module _ (X : Datum) (XL : Law X) (Q : Datum) (QL : Law Q) (Y : Datum) (YL : Law
   TheLast = TheLent u16 (plain (λ _. row Q) ∷ plain (λ _. row Y) ∷ []) Z (λ κs bs a. NeedE bs (a .0) (a .1 .0)) (λ κs bs a r cs. TE bs (a .0) (a .1 .0) r cs) 𝓤 H A
 
   pub meets : (W : Given 𝓤 H A) (𝓣 : Tables 𝓤 H) → Triple 𝓤 (𝓣 .C #first) TheFirst → Triple 𝓤 (𝓣 .C #look) TheLook → Triple 𝓤 (𝓣 .C #last) TheLast
-      → Meets 𝓤 H A (ended X Z .signature) (WpFn 𝓤 H (𝓣 .C) (𝓣 .Λ) (function X Q Y Z #first #look #last)) (closing 𝓤 H A (ended X Z) (clauses X Z Need T 𝓤 H A))
+      → Meets 𝓤 H A (ended X Z .signature) (WpFn 𝓤 H (𝓣 .C) (𝓣 .Λ) (stage X Z (more Q Y) (body #first #look #last))) (closing 𝓤 H A (ended X Z) (clauses X Z Need T 𝓤 H A))
   meets W 𝓣 k-first k-look k-last = meets-by X XL Z ZL Need T 𝓤 H A W 𝓣 (more Q Y) (body #first #look #last) (λ t x gx need l.
       -- [the register; κ; the book; κ₁; _11; …; _0]
       relends ! 22 14 12 (t .room₁ .0) refl refl refl refl refl refl refl refl $ move ! (2 ∷ 3 ∷ []) $
@@ -68,5 +61,6 @@ module _ (X : Datum) (XL : Law X) (Q : Datum) (QL : Law Q) (Y : Datum) (YL : Law
       (λ ν. subst (λ (z : Y .D). NeedE (t .bs) k z) (sym ey) (subst (λ (z : Q .D). NeedE (t .bs) z (L (t .ys) z)) (sym ek) (for-last (t .ys) (t .bs) x need)))
       (fmOf 𝓤 H (W .laws) 𝓣) k-last (λ ν δ. and-then ! (read ! 4 refl) (and-then ! (read ! 18 refl) (and-then ! (read ! 16 refl) (no-more !)))) (λ ν r z cs e gr lc.
       move ! (2 ∷ 3 ∷ 0 ∷ 1 ∷ []) $ land ! (from ! (stop !)) (init ! 26 refl (ZL .law 𝓤 H A W .typed r _ gr .0)) $ returns ! (look ! 26 refl) $
-      leaves ! 4 (has _ ∷ has _ ∷ has _ ∷ has _ ∷ has _ ∷ has _ ∷ has _ ∷ has _ ∷ has _ ∷ has _ ∷ has _ ∷ has _ ∷ []) refl $ by ! (exits X XL Z ZL Need T 𝓤 H A W t x r z (t .ys) cs gr refl lc (comes-to (t .ys) (t .bs) x r cs need
+      leaves ! 4 (has _ ∷ has _ ∷ has _ ∷ has _ ∷ has _ ∷ has _ ∷ has _ ∷ has _ ∷ has _ ∷ has _ ∷ has _ ∷ has _ ∷ []) refl $
+      by ! (exits X XL Z ZL Need T 𝓤 H A W t x r z (t .ys) cs gr refl lc (comes-to (t .ys) (t .bs) x r cs need
       (subst (λ (z : Q .D). TE (t .bs) z (L (t .ys) z) r cs) ek (subst (λ (z : Y .D). TE (t .bs) k z r cs) ey e)) lc))))))

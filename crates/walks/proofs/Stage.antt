@@ -1,13 +1,13 @@
 -- A stage: a function that is lent a register and a book, at any plain X and Y, and says any relation of what it was given, what it gives, and both after it:
 --     fn f(reg: &mut [Station], book: &mut [u16], x: X) -> Y requires { Need } ensures { T }
 --     Needs, Says              what a stage may need and say.        ended, clauses, TheStage     its signature and contract
---     Reg, Book                what is held of the two, whatever list lies there by now.        regTy, bookTy, regAgain, bookAgain    the types in its code
---     exits                    what a walk of a stage shows at its end.        meets-by     a stage meets its contract, from a walk of its code
+--     regTy, bookTy, regAgain, bookAgain, …    the types in its code.        locals, stage    its locals and its MIR, at any further locals and any body
+--     Two                      the register and the book that are lent.        Reg, Book, Holds     what is held of the two, whatever list lies there by now
+--     exits                    what a walk of a stage shows at its end.        meets-by     a stage meets its contract, from a walk of its body
 --     called                   a call of a stage, by a function that holds both, as one step of a walk: both are lent again for lifetimes of the call, and come
 --                              back at what the call has left
 -- Assumes `Given`.
-use Rattle.walks.proofs.Words.{_≡_, refl, ℕ, List, [], _∷_, length}
-use Rattle.walks.proofs.Words.{URA, fullShare, SProp, ent, sep, id⊢, Lft, Share, GName, Fml, ftrue, flft, Heap, Env, Calls, Loops, WpFn, Tables, Atoms, sem, fact, FmC, WpFn-mono}
+use Rattle.walks.proofs.Words.{_≡_, refl, ℕ, List, [], _∷_, length, URA, fullShare, SProp, ent, sep, id⊢, Lft, Share, GName, Fml, ftrue, flft, Heap, Env, Calls, Loops, WpFn, Tables, Atoms, sem, fact, FmC, WpFn-mono}
 use Rattle.walks.proofs.Words.{Name, Ty, Fn, MBody, named, erased, mut, w16, tyInt, tyRef, seq, call, Place, Operand, Local, imm, Val}
 use Rattle.walks.proofs.Words.{Given, Item, lands, ‵, raw, some, later, _⊛_, ⋆, Go, Post as Goes, runs, Sq, _$_, _∵_, !, qed, move, drop, use1, use2, use3, split, join, pick, fsplit, fjoin, feqL, suffices, frame, await, done, atRet, Opds, init, enter, params1, pass1, pass0, lft-new, lft-end}
 use Rattle.walks.proofs.Words.{yes, Is, shows, pointee, u16, RefT, now, sliceTy, sliceVal, MutSlice, Room, slice-vals, mut-slice-tells, plain, mutSliceOf, owned, facts, heard, nothing, calls-at, Vals, onEntry, Contract, Triple}
@@ -41,17 +41,11 @@ abbrev pub bookAgain : Ty
 bookAgain = sliceTy (tyRef erased mut (tyInt w16))
 
 -- and what is lent to be looked at
-abbrev pub regEye : Ty
-regEye = tyRef erased imm stations
+abbrev pub eye : Ty → Ty
+eye τ = tyRef erased imm τ
 
-abbrev pub regSeen : Ty
-regSeen = sliceTy (tyRef erased imm stations)
-
-abbrev pub bookEye : Ty
-bookEye = tyRef erased imm (tyInt w16)
-
-abbrev pub bookSeen : Ty
-bookSeen = sliceTy (tyRef erased imm (tyInt w16))
+abbrev pub seen : Ty → Ty
+seen τ = sliceTy (tyRef erased imm τ)
 
 -- f's locals are its answer, its parameters, and any others
 abbrev pub locals : Datum → Datum → List Ty → List Local
@@ -144,14 +138,18 @@ module _ (t : Two) where
   abbrev pub Holds : {M : Type 1} {𝓤 : URA M} → List Station → List ℕ → List (Item 𝓤) → List (Item 𝓤)
   Holds zs cs Γ = ‵ (Reg zs) ∷ ‵ (flft (t .κ) (t .q)) ∷ ‵ (Book cs) ∷ ‵ (flft (t .κ₁) (t .q₁)) ∷ Γ
 
+-- what a stage is handed
+abbrev Arg : Datum → Type 0
+Arg X = RefT (List Station) × (RefT (List ℕ) × (X .D × Unit {0}))
+
+abbrev sent : (X : Datum) → Two → X .D → List Station → List ℕ → GName → GName → Arg X
+sent X t x zs cs δ ε = (record { ptr = (t .b, t .o); name = δ; now = zs }, (record { ptr = (t .b₁, t .o₁); name = ε; now = cs }, (x, tt)))
+
 -- ---- a walk of a stage
 module _ (X : Datum) (XL : Law X) (Y : Datum) (YL : Law Y) (Need : Needs X) (T : Says X Y) {M : Type 1} (𝓤 : URA M) (H : Heap 𝓤) (A : Atoms 𝓤) (W : Given 𝓤 H A) where
   module _ (t : Two) (x : X .D) where
-    abbrev Arg : Type 0
-    Arg = RefT (List Station) × (RefT (List ℕ) × (X .D × Unit {0}))
-
-    abbrev args : Arg
-    args = (record { ptr = (t .b, t .o); name = t .γ; now = t .ys }, (record { ptr = (t .b₁, t .o₁); name = t .γ₁; now = t .bs }, (x, tt)))
+    abbrev args : Arg X
+    args = sent X t x (t .ys) (t .bs) (t .γ) (t .γ₁)
 
     abbrev at : Vals (ended X Y .signature) (t .κ, (t .κ₁, tt))
     at = (v t ∷ [], (v₁ t ∷ [], (XL .val x ∷ [], tt)))
@@ -182,13 +180,16 @@ module _ (X : Datum) (XL : Law X) (Y : Datum) (YL : Law Y) (Need : Needs X) (T :
           (WpFn 𝓤 H C Λ (stage X Y more body) (v t ∷ v₁ t ∷ XL .val x ∷ []) Post)
       begins gx k =
           qed W (Both ∷ Had ∷ []) ∵ enter ! C Λ (stage X Y more body) (v t ∷ v₁ t ∷ XL .val x ∷ []) _ $
-          opens ! (λ l. locals-last ! (placed (values more) (l .1 .1 .1 .1)) [] (lies (placed (locals X Y []) (l .0, (l .1 .0, (l .1 .1 .0, (l .1 .1 .1 .0, tt))))) [] (Both ∷ Had ∷ [])) $
+          opens ! (λ l. locals-last ! (placed (values more) (l .1 .1 .1 .1)) [] (lies (placed (locals X Y []) (l .0, (l .1 .0, (l .1 .1 .0, (l .1 .1 .1 .0, tt)))))
+          [] (Both ∷ Had ∷ [])) $
           params1 ! $ pass1 ! (init ! 4 refl (tt, (tt, (record { fits = t .room .0 }, tt)))) $ pass1 ! (init ! 2 refl (tt, (tt, (record { fits = t .room₁ .0 }, tt)))) $
           pass1 ! (init ! 0 refl (XL .law 𝓤 H A W .typed x _ gx .0)) $ pass0 ! $
           -- [_3; …; _0; the tokens; what is owned; the others]
-          move ! (9 ∷ []) $ fsplit ! $ move ! (1 ∷ []) $ fsplit ! $ move ! (1 ∷ []) $ drop ! $ move ! (10 ∷ []) $ split ! $ move ! (1 ∷ []) $ split ! $ move ! (1 ∷ []) $ drop ! $
+          move ! (9 ∷ []) $ fsplit ! $ move ! (1 ∷ []) $ fsplit ! $ move ! (1 ∷ []) $ drop ! $ move ! (10 ∷ []) $ split ! $ move ! (1 ∷ []) $ split ! $
+          move ! (1 ∷ []) $ drop ! $
           move ! (4 ∷ 5 ∷ 6 ∷ 7 ∷ 8 ∷ 9 ∷ 10 ∷ 11 ∷ 3 ∷ 1 ∷ 2 ∷ 0 ∷ []) $
-          locals-first ! (placed (values more) (l .1 .1 .1 .1)) [] (lies (placed (locals X Y []) (l .0, (l .1 .0, (l .1 .1 .0, (l .1 .1 .1 .0, tt))))) Passed (Holds t (t .ys) (t .bs) [])) $
+          locals-first ! (placed (values more) (l .1 .1 .1 .1)) [] (lies (placed (locals X Y []) (l .0, (l .1 .0, (l .1 .1 .0, (l .1 .1 .1 .0, tt))))) Passed
+          (Holds t (t .ys) (t .bs) [])) $
           locals-last ! (placed (locals X Y more) l) Passed (Holds t (t .ys) (t .bs) []) $ k l)
         where
           Both : Item 𝓤
@@ -214,7 +215,8 @@ module _ (X : Datum) (XL : Law X) (Y : Datum) (YL : Law Y) (Need : Needs X) (T :
         (clauses X Y Need T 𝓤 H A) (WpFn 𝓤 H (𝓣 .C) (𝓣 .Λ) (stage X Y more body)) (WpFn-mono 𝓤 H (W .laws) 𝓣 (stage X Y more body)) walks
 
 -- ---- a call of a stage
-module _ (X : Datum) (XL : Law X) (Y : Datum) (Need : Needs X) (T : Says X Y) (#g : Name) {M : Type 1} (𝓤 : URA M) (H : Heap 𝓤) (A : Atoms 𝓤) (W : Given 𝓤 H A) (t : Two) where
+module _ (X : Datum) (XL : Law X) (Y : Datum) (Need : Needs X) (T : Says X Y) (#g : Name) {M : Type 1} (𝓤 : URA M) (H : Heap 𝓤) (A : Atoms 𝓤) (W : Given 𝓤 H A)
+    (t : Two) where
   -- for the call
   abbrev Reg′ : List Station → ℕ → GName → Fml
   Reg′ zs ν δ = MutSlice (named 0) (ν ∷ []) R .own (record { ptr = (t .b, t .o); name = δ; now = zs }) (v t ∷ [])
@@ -228,24 +230,20 @@ module _ (X : Datum) (XL : Law X) (Y : Datum) (Need : Needs X) (T : Says X Y) (#
   abbrev pub KeptB : List ℕ → ℕ → GName → Fml
   KeptB cs μ ε = Kept u16 (t .κ₁) (μ ∷ []) (t .q₁) (t .γ₁) (t .b₁) (t .o₁) (length (t .bs)) cs ε
 
-  abbrev GArg : Type 0
-  GArg = RefT (List Station) × (RefT (List ℕ) × (X .D × Unit {0}))
-
-  abbrev ga : X .D → List Station → List ℕ → GName → GName → GArg
-  ga x zs cs δ ε = (record { ptr = (t .b, t .o); name = δ; now = zs }, (record { ptr = (t .b₁, t .o₁); name = ε; now = cs }, (x, tt)))
-
   abbrev pub to-g : X .D → Val → List Station → List ℕ → ℕ → ℕ → GName → GName → TheStage X Y Need T 𝓤 H A .Ghost
-  to-g x u zs cs ν μ δ ε = (((ν ∷ [], (μ ∷ [], tt)), (fullShare, (fullShare, tt)), tt, ga x zs cs δ ε, (v t ∷ [], (v₁ t ∷ [], (u ∷ [], tt)))), tt)
+  to-g x u zs cs ν μ δ ε = (((ν ∷ [], (μ ∷ [], tt)), (fullShare, (fullShare, tt)), tt, sent X t x zs cs δ ε, (v t ∷ [], (v₁ t ∷ [], (u ∷ [], tt)))), tt)
 
   module _ (x : X .D) (u : Val) (zs : List Station) (cs : List ℕ) (is : Is (row X) x (u ∷ [])) (ok : Need zs cs x) where
-    goes : (ν μ : ℕ) (δ ε : GName) → ent 𝓤 (sep 𝓤 (sep 𝓤 (A .lft (ν ∷ []) fullShare) (A .lft (μ ∷ []) fullShare)) (sep 𝓤 (sem 𝓤 H A (Reg′ zs ν δ)) (sem 𝓤 H A (Book′ cs μ ε))))
+    goes : (ν μ : ℕ) (δ ε : GName) → ent 𝓤 (sep 𝓤 (sep 𝓤 (A .lft (ν ∷ []) fullShare) (A .lft (μ ∷ []) fullShare))
+        (sep 𝓤 (sem 𝓤 H A (Reg′ zs ν δ)) (sem 𝓤 H A (Book′ cs μ ε))))
         (TheStage X Y Need T 𝓤 H A .pre (to-g x u zs cs ν μ δ ε))
     goes ν μ δ ε =
         qed W ((‵ (flft (ν ∷ []) fullShare) ⊛ ‵ (flft (μ ∷ []) fullShare)) ∷ (‵ (Reg′ zs ν δ) ⊛ ‵ (Book′ cs μ ε)) ∷ []) ∵ says ! ok $ split ! $ move ! (2 ∷ []) $ split ! $
         nothing ! $ owned ! (row X) (Is (row X)) (XL .make 𝓤 H A W) x (u ∷ []) is $ fjoin ! $ move ! (2 ∷ 0 ∷ []) $ fjoin ! $ move ! (1 ∷ 0 ∷ []) $ fjoin ! $
         nothing ! $ move ! (3 ∷ 0 ∷ []) $ join ! $ move ! (2 ∷ 0 ∷ []) $ join ! $ frame ! $ done !
 
-    module _ (lz : length zs ≡ length (t .ys)) (lc : length cs ≡ length (t .bs)) {C : Calls 𝓤 H} {Λ : Loops 𝓤 H} {En : Env 𝓤 H} {xs : List Operand} {d : Place} {rest : MBody}
+    module _ (lz : length zs ≡ length (t .ys)) (lc : length cs ≡ length (t .bs)) {C : Calls 𝓤 H} {Λ : Loops 𝓤 H} {En : Env 𝓤 H} {xs : List Operand} {d : Place}
+        {rest : MBody}
         {p : Goes 𝓤 H} {Γ : List (Item 𝓤)} where
       pub called : FmC 𝓤 H (W .laws) C → Triple 𝓤 (C #g) (TheStage X Y Need T 𝓤 H A)
           → ((ν μ : ℕ) (δ ε : GName) → Opds Go W (raw (TheStage X Y Need T 𝓤 H A .pre (to-g x u zs cs ν μ δ ε)) ∷ ‵ (KeptB cs μ ε) ∷ ‵ (KeptR zs ν δ) ∷ Γ) En xs
@@ -265,8 +263,9 @@ module _ (X : Datum) (XL : Law X) (Y : Datum) (Need : Needs X) (T : Says X Y) (#
           use2 W (raw (TheStage X Y Need T 𝓤 H A .pre (to-g x u zs cs ν μ δ ε))) (goes ν μ δ ε) $
           calls-at ! fm (TheStage X Y Need T 𝓤 H A) known (to-g x u zs cs ν μ δ ε) (os′ ν μ δ ε) (λ y.
           use1 W (later (some (λ (r : Y .D). ((‵ (flft (ν ∷ []) fullShare) ⊛ ‵ (flft (μ ∷ []) fullShare) ⊛ ‵ ftrue) ⊛ ‵ (row Y .own r (y ∷ [])))
-          ⊛ raw (ensured 𝓤 H A (ended X Y) (clauses X Y Need T 𝓤 H A) (ν ∷ [], (μ ∷ [], tt)) (ga x zs cs δ ε) tt r)))) (id⊢ 𝓤 _) $ await ! tt $ pick ! (λ r.
-          split ! $ move ! (1 ∷ []) $ use1 W (some (λ (ws : List Station × (List ℕ × (Unit {0} × Unit {0}))). ‵ (lasts (ended X Y) (ν ∷ [], (μ ∷ [], tt)) (ga x zs cs δ ε) ws)
+          ⊛ raw (ensured 𝓤 H A (ended X Y) (clauses X Y Need T 𝓤 H A) (ν ∷ [], (μ ∷ [], tt)) (sent X t x zs cs δ ε) tt r)))) (id⊢ 𝓤 _) $ await ! tt $ pick ! (λ r.
+          split ! $ move ! (1 ∷ []) $
+          use1 W (some (λ (ws : List Station × (List ℕ × (Unit {0} × Unit {0}))). ‵ (lasts (ended X Y) (ν ∷ [], (μ ∷ [], tt)) (sent X t x zs cs δ ε) ws)
           ⊛ raw (fact 𝓤 (T x zs cs r (ws .0) (ws .1 .0))))) (id⊢ 𝓤 _) $ pick ! (λ ws.
           split ! $ move ! (1 ∷ []) $ heard ! (T x zs cs r (ws .0) (ws .1 .0)) (λ e. fsplit ! $ fsplit ! $ move ! (1 ∷ []) $
           feqL ! (λ lz′. move ! (1 ∷ []) $ fsplit ! $ fsplit ! $ move ! (1 ∷ []) $ feqL ! (λ lc′. move ! (1 ∷ []) $ drop ! $ move ! (2 ∷ []) $ split ! $ move ! (1 ∷ []) $

@@ -5,24 +5,23 @@
 --         s
 --     }
 -- f gives what `swept` of c and start comes to.
---     function, with its parts turn and at-end     f's MIR.        ended, clauses       its contract.        TheStart, TheC       theirs
+--     more, body, with its parts turn and at-end   f's further locals, and its MIR.        ended, clauses       its contract.        TheStart, TheC       theirs
 --     Meaning      what f and each callee give and need.        Enough       an invariant that gives what c needs, and what the sweep comes to
 --     meets        f meets its contract, from theirs
 -- Assumes `Given`.
 use Rattle.walks.proofs.Words.{_≡_, refl, sym, ap, subst, _∙_, ℕ, _+_, _-_, _≤_, _<_, _^_, zero-le, lt-of-le-of-lt, add-one-le, add-one-dec, Bool, true, false, not, WellFounded, InvImage·wf, List, [], _∷_, length, getD, behind, Nat·lt-wfRel, T, ltb, ltb→lt, nltb→le, lit<}
 use Rattle.walks.proofs.Words.{URA, fullShare, SProp, ent, emp, id⊢, fat, flft, Heap, Out, Env, afterSeq, afterBlock, afterTurn, Wp, WpFn, atReturn, Tables, Atoms, toks, fact, factI, FmC, fmOf}
-use Rattle.walks.proofs.Words.{Name, Fn, MBody, named, w64, tyInt, tyBool, tyPtr, place, field, deref, unsigned, copy as copyᴹ, int, seq, assign, cond, block, loop, skip, exit, call, return, rvOpd, op2, add, mul, lt, offset, Ty, Val, vint, vptr, vbool}
+use Rattle.walks.proofs.Words.{Name, MBody, named, w64, tyInt, tyBool, tyPtr, place, field, deref, unsigned, copy as copyᴹ, int, seq, assign, cond, block, loop, skip, exit, call, return, rvOpd, op2, add, mul, lt, offset, Ty, Val, vint, vptr, vbool}
 use Rattle.walks.proofs.Words.{Given, Item, ‵, raw, _⊛_, ⋆, runs, anyQ, atRet, Sq, _$_, !, by, move, drop, use0, use1, split, rewrite, fsplit, fjoin, whole, sub, look-in, look, look-raw, init, store, forget}
 use Rattle.walks.proofs.Words.{stop, hop, fld, from, load, lit, of-opd, bin, and-then, no-more, assigns, assigns-last, first, blocks, stays, leaves-loop, land, returns, exec, Below, again, loops}
-use Rattle.walks.proofs.Words.{Is, shows, uint-makes, usize, Slot, plain, shr-slice-copy, place-is, elem-out, elem-back, looks-slice, shuts-slice, owned, nothing, Contract, Triple, Meets, closing, needs, Station, blank}
-use Rattle.ship.proofs.Station.Laws as T′
+use Rattle.walks.proofs.Words.{Is, shows, uint-makes, usize, Slot, plain, shr-slice-copy, place-is, elem-out, elem-back, looks-slice, shuts-slice, owned, nothing, Contract, Triple, Meets, closing, needs, Station, blank, stationTy}
 use Rattle.walks.specs.Swept.{swept}
 use Rattle.walks.proofs.Sweeps.{one-more, at-last}
 use Rattle.walks.proofs.Datum.{Datum, row, Law}
 use Rattle.walks.proofs.Row.{R, vals, tells, makes, copy, lawful, stride, bytes, small}
 use Rattle.walks.proofs.Asking.{The, asks, asks-one}
 use Rattle.walks.proofs.Locals.{Places, placed, bare, has, lies, leaves, read}
-use Rattle.walks.proofs.Looking.{locals, look as looking, ended, clauses, One, v, Reg, Post, exits, meets-by}
+use Rattle.walks.proofs.Looking.{locals, look as looking, ended, clauses, One, reg, v, Reg, Post, exits, meets-by}
 
 -- ---- the code
 abbrev at-end : MBody
@@ -34,18 +33,15 @@ turn #c = seq (assign (place 5 []) (rvOpd (copyᴹ (place 1 (field 1 ∷ [])))))
     (seq (cond (copyᴹ (place 6 [])) skip (exit 1))
     (seq (assign (place 5 []) (op2 (mul unsigned) (copyᴹ (place 4 [])) (int w64 stride)))
     (seq (assign (place 7 []) (op2 offset (copyᴹ (place 1 (field 0 ∷ []))) (copyᴹ (place 5 []))))
-    (seq (assign (place 8 []) (rvOpd (copyᴹ (place 7 (deref T′.mir ∷ [])))))
+    (seq (assign (place 8 []) (rvOpd (copyᴹ (place 7 (deref stationTy ∷ [])))))
     (seq (call #c (copyᴹ (place 3 []) ∷ copyᴹ (place 8 []) ∷ copyᴹ (place 2 []) ∷ copyᴹ (place 4 []) ∷ []) (place 3 []))
     (assign (place 4 []) (op2 (add unsigned) (copyᴹ (place 4 [])) (int w64 1)))))))))
 
 abbrev more : Datum → List Ty
-more S = S .ty ∷ tyInt w64 ∷ tyInt w64 ∷ tyBool ∷ tyPtr ∷ T′.mir ∷ []
+more S = S .ty ∷ tyInt w64 ∷ tyInt w64 ∷ tyBool ∷ tyPtr ∷ stationTy ∷ []
 
 abbrev body : Name → Name → MBody
 body #start #c = seq (call #start (copyᴹ (place 2 []) ∷ []) (place 3 [])) (seq (assign (place 4 []) (rvOpd (int w64 0))) (seq (block (loop (turn #c))) at-end))
-
-abbrev pub function : Datum → Datum → Name → Name → Fn
-function Q S #start #c = looking Q S (more S) (body #start #c)
 
 abbrev cSlots : Datum → Datum → List (Slot 0)
 cSlots Q S = plain (λ _. row S) ∷ plain (λ _. R) ∷ plain (λ _. row Q) ∷ plain (λ _. usize) ∷ []
@@ -80,18 +76,9 @@ module _ (Q S : Datum) (m : Meaning Q S) {M : Type 1} (𝓤 : URA M) (H : Heap �
     fm : FmC 𝓤 H (W .laws) (𝓣 .C)
     fm = fmOf 𝓤 H (W .laws) 𝓣
 
-    module _ (e : One) (k : Q .D) (gk : Is (row Q) k (QL .val k ∷ [])) (need : m .Need (e .reg .now) k) where
-      abbrev b : ℕ
-      b = e .reg .ptr .0
-
-      abbrev o : ℕ
-      o = e .reg .ptr .1
-
-      abbrev ys : List Station
-      ys = e .reg .now
-
+    module _ (e : One) (k : Q .D) (gk : Is (row Q) k (QL .val k ∷ [])) (need : m .Need (e .ys) k) where
       abbrev n : ℕ
-      n = length ys
+      n = length (e .ys)
 
       -- from s on, the records from the i-th on
       abbrev onward : S .D → ℕ → List Station → S .D
@@ -100,7 +87,7 @@ module _ (Q S : Datum) (m : Meaning Q S) {M : Type 1} (𝓤 : URA M) (H : Heap �
       abbrev Ends : Val → SProp 𝓤
       Ends = Post Q QL S SL (m .gives) 𝓤 (λ ys k. fact 𝓤 (m .Need ys k)) H A W e k
 
-      ends : (r : S .D) (u : Val) → Is (row S) r (u ∷ []) → r ≡ m .gives ys k → ent 𝓤 (⋆ 𝓤 H A (‵ (Reg e) ∷ ‵ (flft (e .κ) (e .q)) ∷ [])) (Ends u)
+      ends : (r : S .D) (u : Val) → Is (row S) r (u ∷ []) → r ≡ m .gives (e .ys) k → ent 𝓤 (⋆ 𝓤 H A (‵ (Reg e) ∷ ‵ (flft (e .κ) (e .q)) ∷ [])) (Ends u)
       ends = exits Q QL S SL (m .gives) 𝓤 (λ ys k. fact 𝓤 (m .Need ys k)) H A W e k
 
       -- i turns are done, s with the machine value w is what they gave, and what is left still gives the whole
@@ -110,8 +97,8 @@ module _ (Q S : Datum) (m : Meaning Q S) {M : Type 1} (𝓤 : URA M) (H : Heap �
         pub w : Val
         pub is : Is (row S) s (w ∷ [])
         pub few : i ≤ n
-        pub inv : enough .I ys k s i
-        pub still : onward s i (behind i ys) ≡ onward (m .start k) 0 ys
+        pub inv : enough .I (e .ys) k s i
+        pub still : onward s i (behind i (e .ys)) ≡ onward (m .start k) 0 (e .ys)
 
       abbrev Nearer : Upto → Upto → Type 0
       Nearer h j = n - h .i < n - j .i
@@ -145,23 +132,24 @@ module _ (Q S : Datum) (m : Meaning Q S) {M : Type 1} (𝓤 : URA M) (H : Heap �
             (store ! 8 refl (tt, record { fits = bytes n (j .i) (e .room) lt-n })) $
             assigns ! (bin ! (load ! (from ! (fld ! refl (stop !))) (look-in ! 16 (sub ! 0 refl (whole !)))) (read ! 8 refl) tt)
             (from ! (stop !)) (init ! 4 refl (tt, tt)) $
-            rewrite ! 4 (λ (z : ℕ). ‵ (fat fullShare tyPtr (l .1 .1 .1 .1 .1 .1 .1 .0) 0 (vptr b z))) (sym (place-is stride o (j .i))) refl $
-            use1 W (‵ (Reg e) ⊛ ‵ (Reg e)) (shr-slice-copy 𝓤 H A W (named 0) (e .κ) R .twice (e .reg) (v e ∷ [])) $ split ! $
+            rewrite ! 4 (λ (z : ℕ). ‵ (fat fullShare tyPtr (l .1 .1 .1 .1 .1 .1 .1 .0) 0 (vptr (e .b) z))) (sym (place-is stride (e .o) (j .i))) refl $
+            use1 W (‵ (Reg e) ⊛ ‵ (Reg e)) (shr-slice-copy 𝓤 H A W (named 0) (e .κ) R .twice (reg e) (v e ∷ [])) $ split ! $
             fsplit ! $ drop ! $ fsplit ! $ drop ! $ move ! (0 ∷ 2 ∷ []) $
             -- [what is borrowed; its token; the register; _8; …]
-            looks-slice ! tt R (Is R) (shows 𝓤 H A R) vals tells (copy 𝓤 H A W) ys b o (λ q′. move ! (2 ∷ []) $ drop ! $
-            elem-out ! R (Is R) (shows 𝓤 H A R) vals tells q′ ys (j .i) blank b o lt-n (λ gr.
+            looks-slice ! tt R (Is R) (shows 𝓤 H A R) vals tells (copy 𝓤 H A W) (e .ys) (e .b) (e .o) (λ q′. move ! (2 ∷ []) $ drop ! $
+            elem-out ! R (Is R) (shows 𝓤 H A R) vals tells q′ (e .ys) (j .i) blank (e .b) (e .o) lt-n (λ gr.
             -- [reg[i]; what it owns; the others; what shuts; the register; _8; …]
             assigns ! (of-opd ! (load ! (from ! (hop ! (look ! 7 refl) (stop !))) (look-raw ! 0 refl))) (from ! (stop !))
             (init ! 5 refl (lawful 𝓤 H A W .typed r _ gr .0)) $
-            elem-back ! R q′ ys (j .i) blank (vals r) b o lt-n $ shuts-slice ! tt R q′ ys b o $ move ! (1 ∷ 0 ∷ []) $
+            elem-back ! R q′ (e .ys) (j .i) blank (vals r) (e .b) (e .o) lt-n $ shuts-slice ! tt R q′ (e .ys) (e .b) (e .o) $ move ! (1 ∷ 0 ∷ []) $
             -- s = c(s, reg[i], q, i)
             nothing ! $ owned ! usize (Is usize) (uint-makes 𝓤 H A W w64) (j .i) (vint w64 (j .i) ∷ []) (refl, fits) $ fjoin ! $
             owned ! (row Q) (Is (row Q)) (QL .make 𝓤 H A W) k (QL .val k ∷ []) gk $ fjoin ! $ owned ! R (Is R) (makes 𝓤 H A) r (vals r) gr $ fjoin ! $
             owned ! (row S) (Is (row S)) (SL .make 𝓤 H A W) (j .s) (j .w ∷ []) (j .is) $ fjoin ! $ use0 W (raw (toks 𝓤 A 0 tt tt)) (id⊢ 𝓤 (emp 𝓤)) $
-            asks 𝓤 H A 0 (cSlots Q S) S (λ κs z. fact 𝓤 (m .NeedC (z .0) (z .1 .0) (z .1 .1 .0) (z .1 .1 .1 .0))) (λ κs z. m .c (z .0) (z .1 .0) (z .1 .1 .0) (z .1 .1 .1 .0))
+            asks 𝓤 H A 0 (cSlots Q S) S (λ κs z. fact 𝓤 (m .NeedC (z .0) (z .1 .0) (z .1 .1 .0) (z .1 .1 .1 .0))) (λ κs z. m .c (z .0) (z .1 .0) (z .1 .1 .0)
+            (z .1 .1 .1 .0))
             W tt tt (j .s, (r, (k, (j .i, tt)))) (j .w ∷ [], (vals r, (QL .val k ∷ [], (vint w64 (j .i) ∷ [], tt)))) fm k-c
-            (factI 𝓤 (m .NeedC (j .s) r k (j .i)) (emp 𝓤) (enough .for-c ys k (j .s) (j .i) need (j .inv) lt-n))
+            (factI 𝓤 (m .NeedC (j .s) r k (j .i)) (emp 𝓤) (enough .for-c (e .ys) k (j .s) (j .i) need (j .inv) lt-n))
             (and-then ! (read ! 13 refl) (and-then ! (read ! 3 refl)
             (and-then ! (read ! 15 refl) (and-then ! (read ! 11 refl) (no-more !))))) (λ s z es gs. drop ! $
             land ! (from ! (stop !)) (store ! 12 refl (SL .law 𝓤 H A W .typed s _ gs .0)) $
@@ -174,12 +162,12 @@ module _ (Q S : Datum) (m : Meaning Q S) {M : Type 1} (𝓤 : URA M) (H : Heap �
               w = z;
               is = gs;
               few = add-one-le lt-n;
-              inv = subst (λ (t : S .D). enough .I ys k t (j .i + 1)) (sym es) (enough .turns ys k (j .s) (j .i) need (j .inv) lt-n (small r gr));
-              still = one-more (λ (s : S .D) (r : Station) (i : ℕ). m .c s r k i) ys (j .s) s (j .i) blank lt-n es ∙ j .still;
+              inv = subst (λ (t : S .D). enough .I (e .ys) k t (j .i + 1)) (sym es) (enough .turns (e .ys) k (j .s) (j .i) need (j .inv) lt-n (small r gr));
+              still = one-more (λ (s : S .D) (r : Station) (i : ℕ). m .c s r k i) (e .ys) (j .s) s (j .i) blank lt-n es ∙ j .still;
             }) (add-one-dec n (j .i) lt-n))))
           where
             r : Station
-            r = getD ys (j .i) blank
+            r = getD (e .ys) (j .i) blank
 
             lt-n : j .i < n
             lt-n = ltb→lt (j .i) n (subst T (sym eq) tt)
@@ -197,7 +185,8 @@ module _ (Q S : Datum) (m : Meaning Q S) {M : Type 1} (𝓤 : URA M) (H : Heap �
             exec ! (𝓣 .C) (𝓣 .Λ) En at-end (atRet En Ends) $
             assigns ! (of-opd ! (read ! 12 refl)) (from ! (stop !)) (init ! 18 refl (SL .law 𝓤 H A W .typed (j .s) _ (j .is) .0)) $
             returns ! (look ! 18 refl) $ leaves ! 2 (has _ ∷ has _ ∷ has _ ∷ has _ ∷ has _ ∷ has _ ∷ has _ ∷ []) refl $
-            by ! (ends (j .s) (j .w) (j .is) (at-last (λ (s : S .D) (r : Station) (i : ℕ). m .c s r k i) ys (j .s) (j .i) all ∙ j .still ∙ enough .comes-to ys k need))
+            by ! (ends (j .s) (j .w) (j .is) (at-last (λ (s : S .D) (r : Station) (i : ℕ). m .c s r k i) (e .ys) (j .s) (j .i) all ∙ j .still ∙ enough .comes-to
+            (e .ys) k need))
           where
             all : n ≤ j .i
             all = nltb→le (j .i) n (subst (λ (t : Bool). T (not t)) (sym eq) tt)
@@ -205,9 +194,10 @@ module _ (Q S : Datum) (m : Meaning Q S) {M : Type 1} (𝓤 : URA M) (H : Heap �
         looped : (j : Upto) → Sq W (Here j) (runs (𝓣 .C) (𝓣 .Λ) En (loop (turn #c)) (anyQ After))
         looped j = loops ! 𝓣 Nearer Nearer-wf Here (λ h. turn-at h (ltb (h .i) n) refl) j
 
-    pub meets : Meets 𝓤 H A (ended Q S .signature) (WpFn 𝓤 H (𝓣 .C) (𝓣 .Λ) (function Q S #start #c))
+    pub meets : Meets 𝓤 H A (ended Q S .signature) (WpFn 𝓤 H (𝓣 .C) (𝓣 .Λ) (looking Q S (more S) (body #start #c)))
         (closing 𝓤 H A (ended Q S) (clauses Q S (m .gives) 𝓤 (λ ys k. fact 𝓤 (m .Need ys k))))
-    meets = meets-by Q QL S SL (m .gives) 𝓤 (λ ys k. fact 𝓤 (m .Need ys k)) H A W (m .Need) (λ ys k P Z h. needs 𝓤 (m .Need ys k) P h) 𝓣 (more S) (body #start #c) (λ e k gk need l.
+    meets = meets-by Q QL S SL (m .gives) 𝓤 (λ ys k. fact 𝓤 (m .Need ys k)) H A W (m .Need) (λ ys k P Z h. needs 𝓤 (m .Need ys k) P h) 𝓣 (more S) (body #start #c)
+        (λ e k gk need l.
         asks-one 𝓤 H A W Q QL S (m .start) k (QL .val k) gk fm k-start (and-then ! (read ! 15 refl) (no-more !)) (λ s w es gs.
         land ! (from ! (stop !)) (init ! 12 refl (SL .law 𝓤 H A W .typed s _ gs .0)) $
         assigns ! (of-opd ! (lit ! tt)) (from ! (stop !)) (init ! 10 refl (tt, record { fits = lit< tt })) $
@@ -217,6 +207,6 @@ module _ (Q S : Datum) (m : Meaning Q S) {M : Type 1} (𝓤 : URA M) (H : Heap �
           w = w;
           is = gs;
           few = zero-le;
-          inv = subst (λ (t : S .D). enough .I (e .reg .now) k t 0) (sym es) (enough .starts (e .reg .now) k need);
-          still = ap (λ (t : S .D). onward e k gk need t 0 (e .reg .now)) es;
+          inv = subst (λ (t : S .D). enough .I (e .ys) k t 0) (sym es) (enough .starts (e .ys) k need);
+          still = ap (λ (t : S .D). onward e k gk need t 0 (e .ys)) es;
         })))

@@ -1,14 +1,10 @@
 -- A stage (`Stage.antt`) that is two stages, one after the other:
 --     fn f(reg: &mut [Station], book: &mut [u16], x: X) -> Z { let y = g(reg, book, x); h(reg, book, y) }
 -- at any plain X, Y and Z: f says whatever follows from what g and h say (`comes-to`), where its need gives theirs (`for-g`, `for-h`).
---     function     f's MIR.        meets        f meets its contract, from those of g and h
+--     more, body   f's further locals, and its MIR.        meets        f meets its contract, from those of g and h
 -- Assumes `Given`.
-use Rattle.walks.proofs.Words.{_≡_, refl, _∙_, ℕ, List, [], _∷_, length}
-use Rattle.walks.proofs.Words.{URA, Heap, WpFn, Tables, Atoms, fmOf}
-use Rattle.walks.proofs.Words.{Name, Fn, w16, tyInt, place, copy, seq, call, return, Ty, MBody}
-use Rattle.walks.proofs.Words.{Given, _$_, !, by, look, init, stop, from, and-then, no-more, land, returns}
-use Rattle.walks.proofs.Words.{Triple, Meets, closing, Station}
-use Rattle.ship.proofs.Station.Laws as T′
+use Rattle.walks.proofs.Words.{_≡_, refl, _∙_, ℕ, List, [], _∷_, length, URA, Heap, WpFn, Tables, Atoms, fmOf, Name, w16, tyInt, place, copy, seq, call, return, Ty, MBody}
+use Rattle.walks.proofs.Words.{Given, _$_, !, by, look, init, stop, from, and-then, no-more, land, returns, Triple, Meets, closing, Station, stationTy}
 use Rattle.walks.proofs.Again.{relend, relends}
 use Rattle.walks.proofs.Locals.{has, leaves, read}
 use Rattle.walks.proofs.Datum.{Datum, Law}
@@ -18,11 +14,8 @@ abbrev more : Datum → List Ty
 more Y = Y .ty ∷ regAt ∷ regAgain ∷ bookAt ∷ bookAgain ∷ regAt ∷ regAgain ∷ bookAt ∷ bookAgain ∷ []
 
 abbrev body : Name → Name → MBody
-body #g #h = relend T′.mir 1 5 6 (relend (tyInt w16) 2 7 8 (seq (call #g (copy (place 6 []) ∷ copy (place 8 []) ∷ copy (place 3 []) ∷ []) (place 4 []))
-    (relend T′.mir 1 9 10 (relend (tyInt w16) 2 11 12 (seq (call #h (copy (place 10 []) ∷ copy (place 12 []) ∷ copy (place 4 []) ∷ []) (place 0 [])) return)))))
-
-abbrev pub function : Datum → Datum → Datum → Name → Name → Fn
-function X Y Z #g #h = stage X Z (more Y) (body #g #h)
+body #g #h = relend stationTy 1 5 6 (relend (tyInt w16) 2 7 8 (seq (call #g (copy (place 6 []) ∷ copy (place 8 []) ∷ copy (place 3 []) ∷ []) (place 4 []))
+    (relend stationTy 1 9 10 (relend (tyInt w16) 2 11 12 (seq (call #h (copy (place 10 []) ∷ copy (place 12 []) ∷ copy (place 4 []) ∷ []) (place 0 [])) return)))))
 
 module _ (X : Datum) (XL : Law X) (Y : Datum) (YL : Law Y) (Z : Datum) (ZL : Law Z) (NeedG : Needs X) (TG : Says X Y) (NeedH : Needs Y) (TH : Says Y Z) (Need : Needs X)
     (T : Says X Z)
@@ -34,7 +27,7 @@ module _ (X : Datum) (XL : Law X) (Y : Datum) (YL : Law Y) (Z : Datum) (ZL : Law
     → T x ys bs r zs′ cs′) (#g #h : Name) where
   module _ {M : Type 1} (𝓤 : URA M) (H : Heap 𝓤) (A : Atoms 𝓤) (W : Given 𝓤 H A) (𝓣 : Tables 𝓤 H) where
     pub meets : Triple 𝓤 (𝓣 .C #g) (TheStage X Y NeedG TG 𝓤 H A) → Triple 𝓤 (𝓣 .C #h) (TheStage Y Z NeedH TH 𝓤 H A)
-        → Meets 𝓤 H A (ended X Z .signature) (WpFn 𝓤 H (𝓣 .C) (𝓣 .Λ) (function X Y Z #g #h)) (closing 𝓤 H A (ended X Z) (clauses X Z Need T 𝓤 H A))
+        → Meets 𝓤 H A (ended X Z .signature) (WpFn 𝓤 H (𝓣 .C) (𝓣 .Λ) (stage X Z (more Y) (body #g #h))) (closing 𝓤 H A (ended X Z) (clauses X Z Need T 𝓤 H A))
     meets k-g k-h = meets-by X XL Z ZL Need T 𝓤 H A W 𝓣 (more Y) (body #g #h) (λ t x gx need l.
         -- [the register; κ; the book; κ₁; _12; …; _0]
         relends ! 26 18 16 (t .room .0) refl refl refl refl refl refl refl refl $ relends ! 24 14 12 (t .room₁ .0) refl refl refl refl refl refl refl refl $

@@ -1,15 +1,13 @@
 -- One theorem for every change of one record of a lent register, at any plain X, and any covered `fn at(x: X) -> usize` and `fn g(s: Station, x: X) -> Station`:
 --     fn f(reg: &mut [Station], x: X) { let k = at(x); reg[k] = g(reg[k], x); }
 -- f is a change (`Changing.antt`).
---     function     f's MIR.        TheAt, TheG      its callees' contracts.        gSlots       g's parameters
+--     more, body   f's further locals, and its MIR.        TheAt, TheG      its callees' contracts.        gSlots       g's parameters
 --     meets        f meets its contract, from theirs
 -- Assumes `Given`.
-use Rattle.walks.proofs.Words.{refl, sym, ap, _∙_, ℕ, _<_, List, [], _∷_, length, set, getD, length-set}
-use Rattle.walks.proofs.Words.{URA, fullShare, emp, id⊢, fat, Heap, WpFn, Tables, Atoms, toks, FmC, fmOf}
-use Rattle.walks.proofs.Words.{Name, Ty, Fn, w64, tyInt, tyPtr, place, field, deref, unsigned, copy as copyᴹ, int, opdUnit, seq, assign, call, return, rvOpd, op2, mul, offset, MBody, Val, vint, vptr}
+use Rattle.walks.proofs.Words.{refl, sym, ap, _∙_, ℕ, _<_, List, [], _∷_, length, set, getD, length-set, URA, fullShare, emp, id⊢, fat, Heap, WpFn, Tables, Atoms, toks, FmC, fmOf}
+use Rattle.walks.proofs.Words.{Name, Ty, w64, tyInt, tyPtr, place, field, deref, unsigned, copy as copyᴹ, int, opdUnit, seq, assign, call, return, rvOpd, op2, mul, offset, MBody, Val, vint, vptr}
 use Rattle.walks.proofs.Words.{Given, ‵, raw, _$_, !, by, move, drop, use0, rewrite, fjoin, whole, sub, look-in, look, look-raw, init, store-raw, stop, hop, fld, from, load, lit, unit-lit, of-opd, bin, and-then, no-more, assigns, land, returns}
-use Rattle.walks.proofs.Words.{Is, shows, uint-lawful, Slot, plain, place-is, elem-out, elem-back, elem-put, closes-slice, only, owned, nothing, Contract, Triple, Meets, closing, Station, blank}
-use Rattle.ship.proofs.Station.Laws as T′
+use Rattle.walks.proofs.Words.{Is, shows, uint-lawful, Slot, plain, place-is, elem-out, elem-back, elem-put, closes-slice, only, owned, nothing, Contract, Triple, Meets, closing, Station, blank, stationTy}
 use Rattle.walks.proofs.Datum.{Datum, row, Law, number}
 use Rattle.walks.proofs.Row.{R, StationD, vals, tells, makes, lawful, stride, bytes}
 use Rattle.walks.proofs.Asking.{The, asks, asks-one}
@@ -17,21 +15,18 @@ use Rattle.walks.proofs.Locals.{has, leaves, read}
 use Rattle.walks.proofs.Changing.{change, ended, clauses, exits, meets-by}
 
 abbrev more : List Ty
-more = tyInt w64 ∷ T′.mir ∷ tyInt w64 ∷ tyPtr ∷ T′.mir ∷ tyInt w64 ∷ tyPtr ∷ []
+more = tyInt w64 ∷ stationTy ∷ tyInt w64 ∷ tyPtr ∷ stationTy ∷ tyInt w64 ∷ tyPtr ∷ []
 
 abbrev body : Name → Name → MBody
 body #at #g = seq (call #at (copyᴹ (place 2 []) ∷ []) (place 3 []))
     (seq (assign (place 5 []) (op2 (mul unsigned) (copyᴹ (place 3 [])) (int w64 stride)))
     (seq (assign (place 6 []) (op2 offset (copyᴹ (place 1 (field 0 ∷ []))) (copyᴹ (place 5 []))))
-    (seq (assign (place 7 []) (rvOpd (copyᴹ (place 6 (deref T′.mir ∷ [])))))
+    (seq (assign (place 7 []) (rvOpd (copyᴹ (place 6 (deref stationTy ∷ [])))))
     (seq (call #g (copyᴹ (place 7 []) ∷ copyᴹ (place 2 []) ∷ []) (place 4 []))
     (seq (assign (place 8 []) (op2 (mul unsigned) (copyᴹ (place 3 [])) (int w64 stride)))
     (seq (assign (place 9 []) (op2 offset (copyᴹ (place 1 (field 0 ∷ []))) (copyᴹ (place 8 []))))
-    (seq (assign (place 9 (deref T′.mir ∷ [])) (rvOpd (copyᴹ (place 4 []))))
+    (seq (assign (place 9 (deref stationTy ∷ [])) (rvOpd (copyᴹ (place 4 []))))
     (seq (assign (place 0 []) (rvOpd opdUnit)) return))))))))
-
-abbrev pub function : Datum → Name → Name → Fn
-function X #at #g = change X more (body #at #g)
 
 abbrev pub gSlots : Datum → List (Slot 0)
 gSlots X = plain (λ _. R) ∷ plain (λ _. row X) ∷ []
@@ -52,13 +47,11 @@ module _ (X : Datum) (where-is : X .D → ℕ) (G : Station → X .D → Station
     fm : FmC 𝓤 H (W .laws) (𝓣 .C)
     fm = fmOf 𝓤 H (W .laws) 𝓣
 
-    pub meets : Meets 𝓤 H A (ended X .signature) (WpFn 𝓤 H (𝓣 .C) (𝓣 .Λ) (function X #at #g)) (closing 𝓤 H A (ended X) (clauses X Need changed 𝓤))
+    pub meets : Meets 𝓤 H A (ended X .signature) (WpFn 𝓤 H (𝓣 .C) (𝓣 .Λ) (change X more (body #at #g))) (closing 𝓤 H A (ended X) (clauses X Need changed 𝓤))
     meets = meets-by X XL Need changed 𝓤 H A W 𝓣 more (body #at #g) (λ e x gx need l.
-        let ys : List Station = e .reg .now in
+        let ys : List Station = e .ys in
         let i : ℕ = where-is x in
         let s : Station = getD ys i blank in
-        let b : ℕ = e .reg .ptr .0 in
-        let o : ℕ = e .reg .ptr .1 in
         let lt-n : i < length ys = inside ys x need in
         -- [the register's row; its open borrow; obs; auth; _9; …]
         asks-one 𝓤 H A W X XL (number w64) where-is x (XL .val x) gx fm k-at (and-then ! (read ! 19 refl) (no-more !)) (λ p u ep gp.
@@ -69,12 +62,12 @@ module _ (X : Datum) (where-is : X .D → ℕ) (G : Station → X .D → Station
         (init ! 12 refl (tt, record { fits = bytes (length ys) i (e .room) lt-n })) $
         assigns ! (bin ! (load ! (from ! (fld ! refl (stop !))) (look-in ! 20 (sub ! 0 refl (whole !)))) (read ! 12 refl) tt)
         (from ! (stop !)) (init ! 10 refl (tt, tt)) $
-        rewrite ! 10 (λ (z : ℕ). ‵ (fat fullShare tyPtr (l .1 .1 .1 .1 .1 .1 .0) 0 (vptr b z))) (sym (place-is stride o i)) refl $
-        elem-out ! R (Is R) (shows 𝓤 H A R) vals tells fullShare ys i blank b o lt-n (λ gs.
+        rewrite ! 10 (λ (z : ℕ). ‵ (fat fullShare tyPtr (l .1 .1 .1 .1 .1 .1 .0) 0 (vptr (e .b) z))) (sym (place-is stride (e .o) i)) refl $
+        elem-out ! R (Is R) (shows 𝓤 H A R) vals tells fullShare ys i blank (e .b) (e .o) lt-n (λ gs.
         -- [reg[k]; what it owns; the others; its open borrow; …]
         assigns ! (of-opd ! (load ! (from ! (hop ! (look ! 12 refl) (stop !))) (look-raw ! 0 refl))) (from ! (stop !))
         (init ! 10 refl (lawful 𝓤 H A W .typed s _ gs .0)) $
-        elem-back ! R fullShare ys i blank (vals s) b o lt-n $
+        elem-back ! R fullShare ys i blank (vals s) (e .b) (e .o) lt-n $
         -- the record after it
         nothing ! $ owned ! (row X) (Is (row X)) (XL .make 𝓤 H A W) x (XL .val x ∷ []) gx $ fjoin ! $ owned ! R (Is R) (makes 𝓤 H A) s (vals s) gs $ fjoin ! $
         use0 W (raw (toks 𝓤 A 0 tt tt)) (id⊢ 𝓤 (emp 𝓤)) $
@@ -86,12 +79,12 @@ module _ (X : Datum) (where-is : X .D → ℕ) (G : Station → X .D → Station
         (init ! 6 refl (tt, record { fits = bytes (length ys) i (e .room) lt-n })) $
         assigns ! (bin ! (load ! (from ! (fld ! refl (stop !))) (look-in ! 20 (sub ! 0 refl (whole !)))) (read ! 6 refl) tt)
         (from ! (stop !)) (init ! 4 refl (tt, tt)) $
-        rewrite ! 4 (λ (z : ℕ). ‵ (fat fullShare tyPtr (l .1 .1 .1 .1 .1 .1 .1 .1 .1 .0) 0 (vptr b z))) (sym (place-is stride o i)) refl $
-        elem-out ! R (Is R) (shows 𝓤 H A R) vals tells fullShare ys i blank b o lt-n (λ _.
+        rewrite ! 4 (λ (z : ℕ). ‵ (fat fullShare tyPtr (l .1 .1 .1 .1 .1 .1 .1 .1 .1 .0) 0 (vptr (e .b) z))) (sym (place-is stride (e .o) i)) refl $
+        elem-out ! R (Is R) (shows 𝓤 H A R) vals tells fullShare ys i blank (e .b) (e .o) lt-n (λ _.
         assigns ! (of-opd ! (read ! 16 refl)) (from ! (hop ! (look ! 6 refl) (stop !)))
         (store-raw ! 0 refl (lawful 𝓤 H A W .typed r _ gr .0)) $
-        move ! (1 ∷ []) $ drop ! $ owned ! R (Is R) (makes 𝓤 H A) r (y ∷ []) gr $ move ! (1 ∷ 0 ∷ []) $ elem-put ! R fullShare ys i r (y ∷ []) b o lt-n $
-        closes-slice ! tt R ys (set ys i r) (length-set ys i r) b o $
+        move ! (1 ∷ []) $ drop ! $ owned ! R (Is R) (makes 𝓤 H A) r (y ∷ []) gr $ move ! (1 ∷ 0 ∷ []) $ elem-put ! R fullShare ys i r (y ∷ []) (e .b) (e .o) lt-n $
+        closes-slice ! tt R ys (set ys i r) (length-set ys i r) (e .b) (e .o) $
         -- [obs; the register's borrow; κ; _9; …]
         assigns ! (of-opd ! (unit-lit !)) (from ! (stop !)) (init ! 21 refl (tt, tt)) $ returns ! (look ! 21 refl) $
         leaves ! 3 (has _ ∷ has _ ∷ has _ ∷ has _ ∷ has _ ∷ has _ ∷ has _ ∷ has _ ∷ has _ ∷ has _ ∷ []) refl $

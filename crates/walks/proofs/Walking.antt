@@ -6,24 +6,22 @@
 --     }
 -- f is a stage (`Stage.antt`), and says of its parameters, its answer, and the register and the book that it leaves, whatever follows from an invariant that holds at
 -- the start, gives what the callees need, and is kept by a turn.
---     function, with its parts turn and at-end     f's MIR.        Meaning      what f and each callee give, say and need
+--     more, body, with its parts turn and at-end   f's further locals, and its MIR.        Meaning      what f and each callee give, say and need
 --     SameSize     both lists are as long as they were.        Enough       the invariant, what is left to do, and that f's need gives theirs
 --     meets        f meets its contract, from theirs
 -- Assumes `Given`.
 use Rattle.walks.proofs.Words.{_≡_, refl, sym, ap, subst, _∙_, ℕ, _<_, Bool, true, false, WellFounded, InvImage·wf, List, [], _∷_, length, Nat·lt-wfRel}
 use Rattle.walks.proofs.Words.{URA, fullShare, SProp, emp, id⊢, fat, Heap, Out, Env, afterSeq, afterBlock, afterTurn, Wp, WpFn, atReturn, Tables, Atoms, toks, FmC, fmOf}
-use Rattle.walks.proofs.Words.{Name, named, tyBool, loop, Ty, Fn, MBody, w16, tyInt, tyUnit, place, copy, seq, cond, block, skip, exit, call, return, Val, vbool}
+use Rattle.walks.proofs.Words.{Name, named, tyBool, loop, Ty, MBody, w16, tyInt, tyUnit, place, copy, seq, cond, block, skip, exit, call, return, Val, vbool}
 use Rattle.walks.proofs.Words.{Given, Item, ‵, raw, runs, anyQ, atRet, Sq, _$_, !, by, move, drop, use0, rewrite, look, init, store, forget, stop, from, and-then, no-more, first, blocks, stays, leaves-loop, land, land-last, returns, exec, Below, again, loops}
-use Rattle.walks.proofs.Words.{owns, Is, bool-lawful, nothing-lawful, u16, plain, only, Contract, Triple, Meets, closing, Station, plain}
-use Rattle.walks.proofs.Datum.{Datum, row, Law}
+use Rattle.walks.proofs.Words.{owns, Is, bool-lawful, nothing-lawful, u16, plain, only, Contract, Triple, Meets, closing, Station, stationTy}
+use Rattle.walks.proofs.Datum.{Datum, row, Law, truth, void}
 use Rattle.walks.proofs.Row.{R}
 use Rattle.walks.proofs.Asking.{The, asks, asks-one, had-one, had-two}
-use Rattle.walks.proofs.Truth.{truth, void}
 use Rattle.walks.proofs.Locals.{Places, placed, bare, has, lies, leaves, read}
 use Rattle.walks.proofs.Again.{relend, relends}
 use Rattle.walks.proofs.Lending.{TheLent, lends-at, lends-last}
 use Rattle.walks.proofs.Stage.{regAt, regAgain, bookAt, bookAgain, locals, stage, ended, clauses, Two, v, v₁, Holds, Post, exits, meets-by}
-use Rattle.ship.proofs.Station.Laws as T′
 
 -- ---- the code
 abbrev more : Datum → List Ty
@@ -35,14 +33,11 @@ at-end #end = seq (call #end (copy (place 3 []) ∷ copy (place 4 []) ∷ []) (p
 abbrev turn : Name → Name → Name → Name → MBody
 turn #more #step #lose #win = seq (call #more (copy (place 4 []) ∷ []) (place 5 [])) (seq (cond (copy (place 5 [])) skip (exit 1))
     (relend (tyInt w16) 2 6 7 (seq (call #step (copy (place 7 []) ∷ copy (place 4 []) ∷ copy (place 3 []) ∷ []) (place 4 []))
-    (relend T′.mir 1 9 10 (seq (call #lose (copy (place 10 []) ∷ copy (place 4 []) ∷ []) (place 8 []))
-    (relend T′.mir 1 11 12 (call #win (copy (place 12 []) ∷ copy (place 4 []) ∷ []) (place 8 []))))))))
+    (relend stationTy 1 9 10 (seq (call #lose (copy (place 10 []) ∷ copy (place 4 []) ∷ []) (place 8 []))
+    (relend stationTy 1 11 12 (call #win (copy (place 12 []) ∷ copy (place 4 []) ∷ []) (place 8 []))))))))
 
 abbrev body : Name → Name → Name → Name → Name → Name → MBody
 body #start #more #step #lose #win #end = seq (call #start (copy (place 3 []) ∷ []) (place 4 [])) (seq (block (loop (turn #more #step #lose #win))) (at-end #end))
-
-abbrev pub function : Datum → Datum → Datum → Name → Name → Name → Name → Name → Name → Fn
-function X S Y #start #more #step #lose #win #end = stage X Y (more S) (body #start #more #step #lose #win #end)
 
 -- what each gives, says and needs
 pub record Meaning (X S Y : Datum) : Type 2 where
@@ -88,7 +83,8 @@ module _ (X S Y : Datum) (m : Meaning X S Y) {M : Type 1} (𝓤 : URA M) (H : He
   TheMore = The 𝓤 H A 0 (plain (λ _. row S) ∷ []) truth (λ κs a. emp 𝓤) (λ κs a. m .more (a .0))
 
   abbrev pub TheStep : Contract 𝓤
-  TheStep = TheLent u16 (plain (λ _. row S) ∷ plain (λ _. row X) ∷ []) S (λ κs cs a. m .NeedStep cs (a .0) (a .1 .0)) (λ κs cs a t ds. m .Steps cs (a .0) (a .1 .0) t ds) 𝓤 H A
+  TheStep = TheLent u16 (plain (λ _. row S) ∷ plain (λ _. row X) ∷ []) S (λ κs cs a. m .NeedStep cs (a .0) (a .1 .0))
+      (λ κs cs a t ds. m .Steps cs (a .0) (a .1 .0) t ds) 𝓤 H A
 
   -- of lose and of win
   abbrev pub TheChange : (List Station → S .D → List Station) → Contract 𝓤
@@ -151,7 +147,8 @@ module _ (X S Y : Datum) (m : Meaning X S Y) {M : Type 1} (𝓤 : URA M) (H : He
             rewrite ! 18 (λ (z : Val). ‵ (fat fullShare tyBool (l .1 .1 .1 .1 .1 .0) 0 z)) (ap only gc ∙ ap vbool (ec ∙ e)) refl $ stays ! (read ! 18 refl) $
             -- s = step(book, s, x)
             relends ! 24 16 14 (two .room₁ .0) refl refl refl refl refl refl refl refl $ move ! (2 ∷ 3 ∷ []) $
-            lends-at u16 (plain (λ _. row S) ∷ plain (λ _. row X) ∷ []) S (λ κs cs z. m .NeedStep cs (z .0) (z .1 .0)) (λ κs cs z t ds. m .Steps cs (z .0) (z .1 .0) t ds) 𝓤 H A W
+            lends-at u16 (plain (λ _. row S) ∷ plain (λ _. row X) ∷ []) S (λ κs cs z. m .NeedStep cs (z .0) (z .1 .0))
+            (λ κs cs z t ds. m .Steps cs (z .0) (z .1 .0) t ds) 𝓤 H A W
             (named 1) (two .κ₁) (two .q₁) (two .γ₁) (two .b₁) (two .o₁) (length bs) (two .room₁) (j .cs) (j .same .book) (λ ν. (j .s, (x, tt)))
             (λ ν. (j .w ∷ [], (XL .val x ∷ [], tt))) (λ ν. had-two 𝓤 H A W S SL (j .s) (j .w) (j .is) X XL x (XL .val x) gx)
             (λ ν. enough .for-step x ys bs (j .s) (j .zs) (j .cs) need (j .same) (j .inv) e) fm k-step
@@ -205,7 +202,7 @@ module _ (X S Y : Datum) (m : Meaning X S Y) {M : Type 1} (𝓤 : URA M) (H : He
         looped : (j : Upto) → Sq W (Here j) (runs (𝓣 .C) (𝓣 .Λ) En (loop (turn #more #step #lose #win)) (anyQ After))
         looped j = loops ! 𝓣 Nearer Nearer-wf Here (λ h. turn-at h (m .more (h .s)) refl) j
 
-    pub meets : Meets 𝓤 H A (ended X Y .signature) (WpFn 𝓤 H (𝓣 .C) (𝓣 .Λ) (function X S Y #start #more #step #lose #win #end))
+    pub meets : Meets 𝓤 H A (ended X Y .signature) (WpFn 𝓤 H (𝓣 .C) (𝓣 .Λ) (stage X Y (more S) (body #start #more #step #lose #win #end)))
         (closing 𝓤 H A (ended X Y) (clauses X Y (m .Need) (m .Says) 𝓤 H A))
     meets = meets-by X XL Y YL (m .Need) (m .Says) 𝓤 H A W 𝓣 (more S) (body #start #more #step #lose #win #end) (λ two x gx need l.
         asks-one 𝓤 H A W X XL S (m .start) x (XL .val x) gx fm k-start (and-then ! (read ! 23 refl) (no-more !)) (λ s w es gs.

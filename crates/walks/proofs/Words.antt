@@ -1,5 +1,5 @@
--- The words of the libraries that the pages of this crate use, passed on, so that a page names what it uses in a line for each kind: numbers and lists, the logic, the
--- code, the steps of a walk, the contracts. Assumes nothing.
+-- The words of the libraries that the pages of this crate use, passed on, so that a page names what it uses in a few lines: numbers and lists, the logic, the code, the
+-- steps of a walk, the contracts. Assumes nothing.
 pub use mathlib.Core.Path.{_≡_, refl, sym, ap, subst, _∙_}
 pub use Prim.Native.Nat.{ℕ, _<_, _^_, zero, suc, _+_, _≤_, _-_, zero-le, _*_}
 pub use native.Mathlib.Nat.{not-suc-le-zero, le-of-suc-le-suc, lt-of-le-of-lt, le-antisymm, zero-add, add-zero}
@@ -30,6 +30,7 @@ pub use types.Part.{Part, agg, whole, sub, look-in}
 pub use types.Run.{Walks as Ways, Finds, look, init, stop, hop, fld, from, load, addr, and-then, no-more, assigns, Opds, skips, branches, of-opd, first, land, returns, returns-within, enter, exec, params1, pass1, pass0, look-raw, store, store-raw, forget, lit, unit-lit, bin, assigns-last, blocks, stays, leaves-loop, Below, again, loops, Opd, alloc1, alloc0, land-last}
 pub use types.Share.{arr-parts}
 pub use types.Tokens.{lft-new, lft-end, lent-back}
+pub use Rattle.ship.proofs.Station.Laws.{mir as stationTy}
 pub use Rattle.ship.specs.Ship.{blank}
 pub use Rattle.ship.specs.declared.Station.{Station}
 pub use denote.Builtin.{u8, u16, usize}
@@ -38,7 +39,7 @@ pub use denote.Index.{row as cells, whole-in, whole-out, opens-slice, closes-sli
 pub use denote.Laws.{Is, shows, Tells, Lawful, Makes, Copy}
 pub use denote.Lend.{Held, lends-slice, slice-back, lends-shr-slice}
 pub use denote.Memory.{mem, pointee, lone, shares}
-pub use denote.Plain.{uint-makes, bool-lawful, Nothing, UInt, uint-tells, uint-lawful, nothing-lawful, Boolean, bool-tells, bool-makes, nothing-tells, nothing-makes}
+pub use denote.Plain.{uint-makes, bool-lawful, Nothing, Boolean, UInt, uint-tells, uint-lawful, nothing-lawful}
 pub use denote.RattleType.{RattleType, Denots, Valss, owns}
 pub use denote.Ref.{RefT, now}
 pub use denote.Shadow.{pureL, pureI}
