@@ -14,6 +14,7 @@ use Rattle.laws.specs.Tests.{pick, both, either}
 use Rattle.laws.specs.Counting.{one}
 use Rattle.laws.specs.Ranges.{every, howMany}
 use Rattle.laws.proofs.Sums.{one-true}
+use Rattle.laws.proofs.Tests.{both-no}
 use Rattle.limits.specs.Limits.{frameSlots, slotTimes}
 use Rattle.ship.specs.declared.Ship.{Ship}
 use Rattle.ship.specs.declared.Station.{Station}
@@ -66,16 +67,12 @@ every-suc p j = refl
 pub every-more : (p : ℕ → Bool) (j : ℕ) → every p j ≡ true → p j ≡ true → every p (j + 1) ≡ true
 every-more p j e q = ap (every p) (add-one j) ∙ every-suc p j ∙ ap (λ (t : Bool). both t (p j)) e ∙ q
 
-both-not : (t : Bool) → both t false ≡ false
-both-not true = refl
-both-not false = refl
-
 pub every-not : (p : ℕ → Bool) (n j : ℕ) → j < n → p j ≡ false → every p n ≡ false
 every-not p zero j l q = absurd (omega arith)
 every-not p (suc n) j l q = every-suc p n ∙ go (ℕ-discrete j n) (λ m. every-not p n j m q)
   where
     go : Dec (j ≡ n) → (j < n → every p n ≡ false) → both (every p n) (p n) ≡ false
-    go (yes e) h = ap (λ (k : ℕ). both (every p n) (p k)) (sym e) ∙ ap (both (every p n)) q ∙ both-not (every p n)
+    go (yes e) h = ap (λ (k : ℕ). both (every p n) (p k)) (sym e) ∙ ap (both (every p n)) q ∙ both-no (every p n)
     go (no e) h = ap (λ (t : Bool). both t (p n)) (h (omega arith))
 
 -- ---- a free slot

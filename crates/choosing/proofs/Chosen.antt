@@ -36,7 +36,7 @@ choose-exactly s a =
 -- ---- a draw that picks a slot
 
 -- what is neither without candidates nor sent back nor a taken window is a slot
-is-at : (p : Picked) → (p ≡ Taken → ⊥) → isNo p ≡ false → isBack p ≡ false → p ≡ At (distanceIn p) (numberIn p)
+pub is-at : (p : Picked) → (p ≡ Taken → ⊥) → isNo p ≡ false → isBack p ≡ false → p ≡ At (distanceIn p) (numberIn p)
 is-at (At x n) t e f = refl
 is-at NoCandidate t e f = absurd (true≢false e)
 is-at SentBack t e f = absurd (true≢false f)

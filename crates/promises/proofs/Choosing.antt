@@ -1,7 +1,6 @@
 -- A call that chooses: a slot of the window meant, which had no own mark, is ours, in the frames after it too.
 -- Assumes nothing.
 use mathlib.Core.Path.{_≡_, refl, sym, ap, _∙_}
-use mathlib.Core.Bool.{false, true≢false}
 use mathlib.Core.List.{List}
 use Prim.Native.Nat.{ℕ, zero, suc, _+_, _*_, _<_}
 use native.Mathlib.Omega.{arith}
@@ -17,15 +16,14 @@ use Rattle.ship.specs.declared.Station.{Station}
 use Rattle.book.specs.Book.{Book, ours, place, holder, bookOf, putAt}
 use Rattle.book.proofs.Lengths.{put-sizes}
 use Rattle.book.proofs.Plans.{in-range}
-use Rattle.candidates.specs.declared.Picked.{Picked}
-use Rattle.candidates.specs.declared.Picked.the-variants.{At, NoCandidate, SentBack, Taken}
-use Rattle.candidates.specs.Window.{isNo, isBack, distanceIn, numberIn}
+use Rattle.candidates.specs.Window.{distanceIn, numberIn}
 use Rattle.candidates.specs.Promises.{Picks}
 use Rattle.candidates.proofs.Promised.{pick-is-candidate}
 use Rattle.choosing.specs.declared.Wanted.{Wanted}
 use Rattle.choosing.specs.Choosing.{askFits, viewOf}
 use Rattle.choosing.specs.Choose.{drawnIn, chosen, chooseTests}
 use Rattle.choosing.proofs.Choosing.{not-taken}
+use Rattle.choosing.proofs.Chosen.{is-at}
 use Rattle.register.specs.declared.Slot.{Slot}
 use Rattle.register.specs.State.{State, bookIn, sourcesIn, settle, owned}
 use Rattle.register.proofs.Settling.{bookIn-settle}
@@ -97,13 +95,6 @@ module _ (s : State) (f : Fine s) (x : ℕ) where
   chosen-by m = owns-by (suc m)
 
 -- ---- the call
-
--- what is neither without candidates nor sent back nor a taken window is a slot
-is-at : (p : Picked) → (p ≡ Taken → ⊥) → isNo p ≡ false → isBack p ≡ false → p ≡ At (distanceIn p) (numberIn p)
-is-at (At x n) t e f = refl
-is-at NoCandidate t e f = absurd (true≢false e)
-is-at SentBack t e f = absurd (true≢false f)
-is-at Taken t e f = absurd (t refl)
 
 module _ (s : State) (a : Wanted) (f : Fine s) (held : AllHold (chooseTests s a)) where
   abbrev drawn : ℕ
