@@ -1,7 +1,7 @@
 -- A call of any function whose result is plain and whose contract says what it gives, as one step of a walk. What the function needs of its parameters, any
 -- number of them, stands ready as `owns`; the tokens of their lifetimes come back.
 --     asked, clauses, The      its signature and contract: it needs `need`, and gives g of its parameters
---     asks                     the step.        asks-one     the step for one plain parameter and no need
+--     asks                     the step.        TheOne, asks-one     for one plain parameter and no need
 --     had-one, had-two         one plain value, or two, as a function is handed them
 -- Assumes `Given`.
 use Rattle.walks.proofs.Words.{_≡_, ℕ, List, [], _∷_, URA, SProp, ent, emp, sep, id⊢, exE, snd∗, Heap, Env, Calls, Loops, Atoms, sem, Lfts, Shares, toks, fact, FmC, Name, Place, Operand, MBody, seq, call, Val}

@@ -3,21 +3,25 @@
 --     fn f(reg: &mut [Station], book: &mut [u16], bytes: &[u8], x: X) -> Y {
 --         let y = told(reg.len(), book.len(), bytes, x); if ready(y) { return inner(reg, book, y); } refused(y) }
 -- at any plain X, Q and Y. f needs nothing, and says whatever follows from what inner says (`by-inner`), or from the refusal (`by-refused`).
---     function     f's MIR.        ended, clauses       its signature and contract.        TheTold, TheReady, TheRefused        the callees' contracts
+--     more, body   f's further locals, and its MIR.        ended, clauses       its signature and contract.
+--     TheTold, TheReady, TheRefused        the callees' contracts
 --     meets        f meets its contract, from theirs
 -- Assumes `Given`.
 use Rattle.walks.proofs.Words.{_≡_, refl, sym, ap, subst, _∙_, ℕ, Bool, true, false, not, List, [], _∷_, length, T}
-use Rattle.walks.proofs.Words.{URA, fullShare, SProp, ent, emp, id⊢, via, fst∗, Lft, Share, ftrue, fat, flft, Heap, WpFn, Tables, Atoms, toks, fact, FmC, fmOf, WpFn-mono}
-use Rattle.walks.proofs.Words.{Name, Ty, Fn, MBody, named, imm, w8, w16, w64, tyInt, tyBool, tyRef, place, field, copy, seq, assign, cond, skip, call, return, rvOpd, Local, Val, vint, vbool}
-use Rattle.walks.proofs.Words.{Given, ‵, raw, _⊛_, ⋆, atRet, _$_, _∵_, !, qed, by, move, drop, use1, split, join, rewrite, fsplit, fjoin, suffices, frame, done, whole, sub, look-in, skips, branches, look, init, stop, fld, from, load, of-opd, and-then, no-more, assigns, first, land, returns, returns-within, enter, exec, params1, pass1, pass0}
-use Rattle.walks.proofs.Words.{yes as kept-so, owns, Is, uint-makes, bool-lawful, u8, u16, usize, RefT, now, sliceTy, sliceVal, MutSlice, ShrSlice, Room, slice-vals, mut-slice-tells, shr-slice-tells, Slot, plain, mutSliceOf, shrSliceOf, only}
-use Rattle.walks.proofs.Words.{owned, nothing, Vals, onEntry, Contract, Triple, Meets, Clauses, Ended, closing, says, Stays, stay-slice, stay-dropped, walkOf, Walks, ends-at, walked, goes-slice, goes-dropped, walk-meets, Station, stationTy}
+use Rattle.walks.proofs.Words.{URA, fullShare, SProp, ent, emp, id⊢, via, fst∗, Lft, Share, ftrue, fat, flft, Heap, WpFn, Tables, Atoms, toks, fact, FmC, fmOf}
+use Rattle.walks.proofs.Words.{Name, Ty, MBody, named, imm, w8, w16, w64, tyInt, tyBool, tyRef, place, field, copy, seq, assign, cond, skip, call, return, rvOpd, Local, Val, vint, vbool}
+use Rattle.walks.proofs.Words.{Given, ‵, raw, _⊛_, ⋆, atRet, _$_, _∵_, !, qed, by, move, drop, use1, split, join, rewrite, fsplit, fjoin, suffices, frame, done, runs, Sq, whole, sub, look-in, skips, branches, look, init, stop, fld, from, load, of-opd, and-then, no-more, assigns, first, land, returns, returns-within, exec}
+use Rattle.walks.proofs.Words.{Is, uint-makes, bool-lawful, u8, u16, usize, RefT, now, sliceTy, sliceVal, ShrSlice, Room, Slot, plain, mutSliceOf, shrSliceOf, only, owned, nothing, Contract, Triple, Meets, Clauses, Ended, closing, says, ends-at, Station, stationTy}
 use Rattle.walks.proofs.Datum.{Datum, row, Law, truth, is-true, is-false}
 use Rattle.walks.proofs.Row.{R}
-use Rattle.walks.proofs.Locals.{values, placed, has, opens, leaves, read}
+use Rattle.walks.proofs.Locals.{values, placed, has, leaves, read}
 use Rattle.walks.proofs.Again.{relend, relends}
 use Rattle.walks.proofs.Asking.{The, asks, asks-one}
 use Rattle.walks.proofs.Stage.{regTy, bookTy, regAt, regAgain, bookAt, bookAgain, Needs, Says, TheStage, Two, two, v, v₁, Holds, called}
+use Rattle.walks.proofs.Asking.{asked}
+use Rattle.walks.proofs.Locals.{bare, lies, Places}
+use Rattle.walks.proofs.Stage.{stations}
+use Rattle.walks.proofs.Entering.{Params, hands, eyes, by-value, staysOf, function, Post as Ends, enters}
 
 -- ---- the code
 abbrev bytesTy : Ty
@@ -29,45 +33,28 @@ arm #inner = relend stationTy 1 9 10 (relend (tyInt w16) 2 11 12 (seq (call #inn
 abbrev rest : Name → MBody
 rest #refused = seq (call #refused (copy (place 5 []) ∷ []) (place 0 [])) return
 
-abbrev locals : Datum → Datum → Datum → List Local
-locals X Q Y = values (Y .ty ∷ regTy ∷ bookTy ∷ bytesTy ∷ X .ty ∷ Q .ty ∷ tyInt w64 ∷ tyInt w64 ∷ tyBool ∷ regAt ∷ regAgain ∷ bookAt ∷ bookAgain ∷ [])
+abbrev more : Datum → List Ty
+more Q = Q .ty ∷ tyInt w64 ∷ tyInt w64 ∷ tyBool ∷ regAt ∷ regAgain ∷ bookAt ∷ bookAgain ∷ []
 
-abbrev pub function : Datum → Datum → Datum → Name → Name → Name → Name → Fn
-function X Q Y #told #ready #inner #refused = record {
-  lifetimes = 3;
-  outlives = [];
-  params = 4;
-  locals = locals X Q Y;
-  body = seq (assign (place 6 []) (rvOpd (copy (place 1 (field 1 ∷ [])))))
-      (seq (assign (place 7 []) (rvOpd (copy (place 2 (field 1 ∷ [])))))
-      (seq (call #told (copy (place 6 []) ∷ copy (place 7 []) ∷ copy (place 3 []) ∷ copy (place 4 []) ∷ []) (place 5 []))
-      (seq (call #ready (copy (place 5 []) ∷ []) (place 8 []))
-      (seq (cond (copy (place 8 [])) (arm #inner) skip) (rest #refused)))));
-}
+abbrev locals : Datum → Datum → Datum → List Local
+locals X Q Y = values (Y .ty ∷ regTy ∷ bookTy ∷ bytesTy ∷ X .ty ∷ more Q)
+
+abbrev body : Name → Name → Name → Name → MBody
+body #told #ready #inner #refused = seq (assign (place 6 []) (rvOpd (copy (place 1 (field 1 ∷ [])))))
+    (seq (assign (place 7 []) (rvOpd (copy (place 2 (field 1 ∷ [])))))
+    (seq (call #told (copy (place 6 []) ∷ copy (place 7 []) ∷ copy (place 3 []) ∷ copy (place 4 []) ∷ []) (place 5 []))
+    (seq (call #ready (copy (place 5 []) ∷ []) (place 8 []))
+    (seq (cond (copy (place 8 [])) (arm #inner) skip) (rest #refused)))))
 
 -- ---- the contracts
-abbrev pub ended : Datum → Datum → Ended
-ended X Y = record {
-  signature = record {
-    lifetimes = 3;
-    outlives = [];
-    params = mutSliceOf (0 ∷ []) tt (plain (λ _. R)) ∷ mutSliceOf (1 ∷ []) tt (plain (λ _. u16)) ∷ shrSliceOf (2 ∷ []) tt (plain (λ _. u8)) ∷ plain (λ _. row X) ∷ [];
-    result = plain (λ _. row Y);
-  };
-  kept = (kept-so, (kept-so, (kept-so, (kept-so, tt))));
-}
+abbrev slots : Datum → List (Slot 3)
+slots X = mutSliceOf (0 ∷ []) tt (plain (λ _. R)) ∷ mutSliceOf (1 ∷ []) tt (plain (λ _. u16)) ∷ shrSliceOf (2 ∷ []) tt (plain (λ _. u8)) ∷ plain (λ _. row X) ∷ []
 
-abbrev stayed : (X Y : Datum) → Stays (ended X Y .signature .params) (ended X Y .kept)
-stayed X Y = (
-  stay-slice (0 ∷ []) tt (plain (λ _. R)),
-  (
-    stay-slice (1 ∷ []) tt (plain (λ _. u16)),
-    (
-      stay-dropped (shrSliceOf (2 ∷ []) tt (plain (λ _. u8))) kept-so,
-      (stay-dropped (plain (λ _. row X)) kept-so, tt),
-    ),
-  ),
-)
+abbrev params : (X : Datum) → Law X → Params (slots X)
+params X XL = (hands 3 0 tt R stations, (hands 3 1 tt u16 (tyInt w16), (eyes 3 2 tt u8 (tyInt w8), (by-value 3 X XL, tt))))
+
+abbrev pub ended : Datum → Datum → Ended
+ended X Y = asked 3 (slots X) Y
 
 abbrev toldSlots : Datum → List (Slot 1)
 toldSlots X = plain (λ _. usize) ∷ plain (λ _. usize) ∷ shrSliceOf (0 ∷ []) tt (plain (λ _. u8)) ∷ plain (λ _. row X) ∷ []
@@ -98,9 +85,6 @@ module _ (X : Datum) (XL : Law X) (Q : Datum) (QL : Law Q) (Y : Datum) (YL : Law
 
   module _ (W : Given 𝓤 H A) (𝓣 : Tables 𝓤 H) (k-told : Triple 𝓤 (𝓣 .C #told) TheTold) (k-ready : Triple 𝓤 (𝓣 .C #ready) TheReady)
       (k-inner : Triple 𝓤 (𝓣 .C #inner) (TheStage Q Y NeedI TI 𝓤 H A)) (k-refused : Triple 𝓤 (𝓣 .C #refused) TheRefused) where
-    abbrev runs-f : List Val → (Val → SProp 𝓤) → SProp 𝓤
-    runs-f = WpFn 𝓤 H (𝓣 .C) (𝓣 .Λ) (function X Q Y #told #ready #inner #refused)
-
     module _ (t : Two) (κ₂ : Lft) (q₂ : Share) (c : RefT (List ℕ)) (g₂ : Room u8 (length (c .now))) (x : X .D) (gx : Is (row X) x (XL .val x ∷ [])) where
       abbrev ds : List ℕ
       ds = c .now
@@ -114,33 +98,25 @@ module _ (X : Datum) (XL : Law X) (Q : Datum) (QL : Law Q) (Y : Datum) (YL : Law
       abbrev a : Arg
       a = (record { ptr = (t .b, t .o); name = t .γ; now = t .ys }, (record { ptr = (t .b₁, t .o₁); name = t .γ₁; now = t .bs }, (c, (x, tt))))
 
-      abbrev at : Vals (ended X Y .signature) (t .κ, (t .κ₁, (κ₂, tt)))
-      at = (v t ∷ [], (v₁ t ∷ [], (v₂ ∷ [], (XL .val x ∷ [], tt))))
-
       abbrev Post : Val → SProp 𝓤
-      Post = walkOf 𝓤 H A (ended X Y) (stayed X Y) clauses .post (((t .κ, (t .κ₁, (κ₂, tt))), (t .q, (t .q₁, (q₂, tt))), tt, a, at), tt)
+      Post = Ends 3 (slots X) (params X XL) Y 𝓤 H A clauses (t .κ, (t .κ₁, (κ₂, tt))) (t .q, (t .q₁, (q₂, tt))) a tt
 
       exits : (r : Y .D) (y : Val) (zs : List Station) (cs : List ℕ) → Is (row Y) r (y ∷ []) → length zs ≡ length (t .ys) → length cs ≡ length (t .bs)
           → S x ds (t .ys) (t .bs) r zs cs → ent 𝓤 (⋆ 𝓤 H A (Holds t zs cs (‵ (flft κ₂ q₂) ∷ []))) (Post y)
       exits r y zs cs gr lz lc e =
           qed W (Holds t zs cs (‵ (flft κ₂ q₂) ∷ [])) ∵
-          suffices ! _ (ends-at 𝓤 H A (ended X Y) (stayed X Y) clauses W (((t .κ, (t .κ₁, (κ₂, tt))), (t .q, (t .q₁, (q₂, tt))), tt, a, at), tt) y r
+          suffices ! _ (ends-at 𝓤 H A (ended X Y) (staysOf (slots X) (params X XL)) clauses W
+          (((t .κ, (t .κ₁, (κ₂, tt))), (t .q, (t .q₁, (q₂, tt))), tt, a, (v t ∷ [], (v₁ t ∷ [], (v₂ ∷ [], (XL .val x ∷ [], tt))))), tt) y r
           (zs, (cs, (tt, (tt, tt))))
           (lz, (lc, (tt, (tt, tt))))) $ says ! e $ nothing ! $ move ! (5 ∷ 0 ∷ []) $ join ! $ move ! (4 ∷ 0 ∷ []) $ join ! $ move ! (2 ∷ 0 ∷ []) $ join ! $ frame ! $
           nothing ! $ nothing ! $ fjoin ! $ nothing ! $ fjoin ! $ move ! (2 ∷ 0 ∷ []) $ fjoin ! $ move ! (1 ∷ 0 ∷ []) $ fjoin ! $ frame ! $
           owned ! (row Y) (Is (row Y)) (YL .make 𝓤 H A W) r (y ∷ []) gr $ done !
 
-      walk : ent 𝓤 (onEntry 𝓤 H A (ended X Y .signature) (t .κ, (t .κ₁, (κ₂, tt))) (t .q, (t .q₁, (q₂, tt))) a at) (runs-f (v t ∷ v₁ t ∷ v₂ ∷ XL .val x ∷ []) Post)
-      walk =
-          qed W ((‵ (flft (t .κ) (t .q)) ⊛ ‵ (flft (t .κ₁) (t .q₁)) ⊛ ‵ (flft κ₂ q₂) ⊛ ‵ ftrue)
-          ∷ ‵ (owns (MutSlice (named 0) (t .κ) R ∷ MutSlice (named 1) (t .κ₁) u16 ∷ ShrSlice (named 2) κ₂ u8 ∷ row X ∷ []) a at) ∷ []) ∵
-          enter ! (𝓣 .C) (𝓣 .Λ) (function X Q Y #told #ready #inner #refused) (v t ∷ v₁ t ∷ v₂ ∷ XL .val x ∷ []) _ $ opens ! (λ l. params1 ! $
-          pass1 ! (init ! 22 refl (tt, (tt, (record { fits = t .room .0 }, tt)))) $ pass1 ! (init ! 20 refl (tt, (tt, (record { fits = t .room₁ .0 }, tt)))) $
-          pass1 ! (init ! 18 refl (tt, (tt, (record { fits = g₂ .0 }, tt)))) $ pass1 ! (init ! 16 refl (XL .law 𝓤 H A W .typed x _ gx .0)) $ pass0 ! $
-          move ! (27 ∷ []) $ fsplit ! $ move ! (1 ∷ []) $ fsplit ! $ move ! (1 ∷ []) $ fsplit ! $ move ! (1 ∷ []) $ drop ! $ move ! (29 ∷ []) $ split ! $ move ! (1 ∷ []) $
-          split ! $ move ! (1 ∷ []) $ split ! $ move ! (1 ∷ []) $ drop ! $
-          -- [the bytes; κ₂; the register; κ; the book; κ₁; _12; …; _0]
-          move ! (3 ∷ 0 ∷ 5 ∷ 2 ∷ 4 ∷ 1 ∷ []) $
+      -- [the bytes; κ₂; the register; κ; the book; κ₁; _12; …; _0]
+      walk : (l : Places (locals X Q Y)) → Sq W (‵ (ShrSlice (named 2) κ₂ u8 .own c (v₂ ∷ [])) ∷ ‵ (flft κ₂ q₂) ∷ Holds t (t .ys) (t .bs)
+          (lies (placed (locals X Q Y) l) (bare ∷ has (v t) ∷ has (v₁ t) ∷ has v₂ ∷ has (XL .val x) ∷ []) []))
+          (runs (𝓣 .C) (𝓣 .Λ) (placed (locals X Q Y) l) (body #told #ready #inner #refused) (atRet (placed (locals X Q Y) l) Post))
+      walk l =
           assigns ! (of-opd ! (load ! (from ! (fld ! refl (stop !))) (look-in ! 28 (sub ! 1 refl (whole !))))) (from ! (stop !))
           (init ! 18 refl (tt, record { fits = t .room .0 })) $
           assigns ! (of-opd ! (load ! (from ! (fld ! refl (stop !))) (look-in ! 26 (sub ! 1 refl (whole !))))) (from ! (stop !))
@@ -170,7 +146,7 @@ module _ (X : Datum) (XL : Law X) (Q : Datum) (QL : Law Q) (Y : Datum) (YL : Law
           asks-one 𝓤 H A W Q QL Y E k u gk fm k-refused (and-then ! (read ! 20 refl) (no-more !)) (λ r z er gr.
           land ! (from ! (stop !)) (init ! 29 refl (YL .law 𝓤 H A W .typed r _ gr .0)) $ returns ! (look ! 29 refl) $
           leaves ! 5 (has _ ∷ has _ ∷ has _ ∷ has _ ∷ has _ ∷ has _ ∷ has _ ∷ has _ ∷ has _ ∷ []) refl $
-          by ! (exits r z (t .ys) (t .bs) gr refl refl (turned-away k ek no r er)))))))
+          by ! (exits r z (t .ys) (t .bs) gr refl refl (turned-away k ek no r er))))))
         where
           fm : FmC 𝓤 H (W .laws) (𝓣 .C)
           fm = fmOf 𝓤 H (W .laws) 𝓣
@@ -190,26 +166,13 @@ module _ (X : Datum) (XL : Law X) (Q : Datum) (QL : Law Q) (Y : Datum) (YL : Law
           turned-away k ek n r er = subst (λ (z : Y .D). S x ds (t .ys) (t .bs) z (t .ys) (t .bs)) (sym (er ∙ ap E ek))
               (by-refused ds (t .ys) (t .bs) x (subst (λ (z : Q .D). Rd z ≡ false) ek (is-false (Rd k) n)))
 
-    walks : Walks 𝓤 H A (ended X Y) (stayed X Y) runs-f clauses
-    walks = walked 𝓤 H A (ended X Y) (stayed X Y) clauses runs-f (λ κs. (slice-vals, (slice-vals, (slice-vals, ((λ x. XL .val x ∷ []), tt)))))
-        (λ κs. (mut-slice-tells (named 0) (κs .0) R, (mut-slice-tells (named 1) (κs .1 .0) u16, (shr-slice-tells (named 2) (κs .1 .1 .0) u8, (XL .tells, tt)))))
-        (λ κs qs bounds a g are. via 𝓤 _ (fst∗ 𝓤 _ (emp 𝓤)) (walk (two (κs .0) (qs .0) (a .0) (are .0 .0 .1) (κs .1 .0) (qs .1 .0) (a .1 .0) (are .1 .0 .0 .1))
-        (κs .1 .1 .0) (qs .1 .1 .0) (a .1 .1 .0) (are .1 .1 .0 .0 .1) (a .1 .1 .1 .0) (are .1 .1 .1 .0)))
-
-    pub meets : Meets 𝓤 H A (ended X Y .signature) runs-f (closing 𝓤 H A (ended X Y) clauses)
-    meets =
-        walk-meets 𝓤 H A (ended X Y) (stayed X Y) W (
-          goes-slice 𝓤 H A W 3 0 tt (plain (λ _. R)),
-          (
-            goes-slice 𝓤 H A W 3 1 tt (plain (λ _. u16)),
-            (
-              goes-dropped 𝓤 H A W 3 (shrSliceOf (2 ∷ []) tt (plain (λ _. u8))) kept-so (λ κs x f. refl),
-              (
-                goes-dropped 𝓤 H A W 3 (plain (λ _. row X)) kept-so
-                    (λ κs x f. refl),
-                tt,
-              ),
-            ),
-          ),
-        )
-        clauses runs-f (WpFn-mono 𝓤 H (W .laws) 𝓣 (function X Q Y #told #ready #inner #refused)) walks
+    pub meets : Meets 𝓤 H A (ended X Y .signature) (WpFn 𝓤 H (𝓣 .C) (𝓣 .Λ) (function 3 (slots X) (params X XL) Y 4 (more Q) (body #told #ready #inner #refused)))
+        (closing 𝓤 H A (ended X Y) clauses)
+    meets = enters 3 (slots X) (params X XL) Y 4 (more Q) (body #told #ready #inner #refused) 𝓤 H A clauses W 𝓣 (λ κs a. Unit {0})
+        (λ κs a g P Z h. via 𝓤 P (fst∗ 𝓤 P (emp 𝓤)) (h tt)) (λ κs qs a g are need l.
+        use1 W (‵ (flft (κs .0) (qs .0)) ⊛ ‵ (flft (κs .1 .0) (qs .1 .0)) ⊛ ‵ (flft (κs .1 .1 .0) (qs .1 .1 .0)) ⊛ ‵ ftrue) (id⊢ 𝓤 _) $
+        split ! $ move ! (1 ∷ []) $ split ! $ move ! (1 ∷ []) $ split ! $ move ! (1 ∷ []) $ drop ! $
+        -- [κ₂; κ₁; κ; what is owned; …]
+        move ! (3 ∷ []) $ fsplit ! $ move ! (1 ∷ []) $ fsplit ! $ move ! (1 ∷ []) $ fsplit ! $ move ! (1 ∷ []) $ drop ! $ move ! (0 ∷ 3 ∷ 2 ∷ 5 ∷ 1 ∷ 4 ∷ []) $
+        walk (two (κs .0) (qs .0) (a .0) (are .0 .0 .1) (κs .1 .0) (qs .1 .0) (a .1 .0) (are .1 .0 .0 .1)) (κs .1 .1 .0) (qs .1 .1 .0) (a .1 .1 .0)
+        (are .1 .1 .0 .0 .1) (a .1 .1 .1 .0) (are .1 .1 .1 .0) l)

@@ -3,6 +3,7 @@ pub mod Words
 pub mod Datum
 pub mod Row
 pub mod Again
+pub mod Entering
 pub mod Lent
 pub mod Asking
 pub mod Records

@@ -5,9 +5,10 @@
 --     leaves       it ends: the locals stand last in the context, and are freed whatever they hold
 --     read         a local as an operand, which entry n of the context holds
 -- Assumes `Given`.
-use Rattle.walks.proofs.Words.{_≡_, subst, ℕ, zero, suc, _++_, List, [], _∷_}
-use Rattle.walks.proofs.Words.{URA, fullShare, comm∗, assoc∗, assoc′, monoL, monoR, emp∗, SProp, ent, sep, emp, id⊢, via, fst∗, snd∗, fat, froom, fdies, Share, release, spotOf, Heap, Env, Atoms}
-use Rattle.walks.proofs.Words.{Local, Ty, local, valueLocal, place, copy, Val, nth, Goal, Seq, Step, step, aim, mean, push, pop, ⊢++, ++⊢, allocs, frees, Given, Item, ‵, ⋆, _$_, Opd, load, from, stop, look, alloc1, alloc0}
+use Rattle.walks.proofs.Words.{_≡_, subst, ℕ, zero, suc, _++_, List, [], _∷_, T}
+use Rattle.walks.proofs.Words.{URA, fullShare, comm∗, assoc∗, assoc′, monoL, monoR, emp∗, SProp, ent, sep, emp, id⊢, via, fst∗, snd∗, wand, wandI, guardI, fat, froom, fdies, Share, release, spotOf, Heap, Env, write, Atoms}
+use Rattle.walks.proofs.Words.{Local, Ty, local, valueLocal, place, copy, Val, hasTy, WT}
+use Rattle.walks.proofs.Words.{nth, Goal, Seq, Step, step, aim, mean, push, pop, ⊢++, ++⊢, allocs, frees, Given, Item, ‵, ⋆, _$_, Opd, load, from, stop, look, alloc1, alloc0}
 
 -- locals of these types
 abbrev pub values : List Ty → List Local
@@ -63,6 +64,11 @@ module _ {M : Type 1} (𝓤 : URA M) where
       via 𝓤 (sep 𝓤 (sep 𝓤 (sep 𝓤 c d) h) p) (monoL 𝓤 p (comm∗ 𝓤 h (sep 𝓤 c d)))
       (via 𝓤 (sep 𝓤 (sep 𝓤 c d) (sep 𝓤 h p)) (assoc∗ 𝓤 (sep 𝓤 c d) h p) (via 𝓤 (sep 𝓤 (sep 𝓤 r d) (sep 𝓤 h p)) (monoL 𝓤 (sep 𝓤 h p) (monoL 𝓤 d f)) (monoR 𝓤 (sep 𝓤 r d) g)))
 
+  group-write : (h r x v q : SProp 𝓤) → ent 𝓤 (sep 𝓤 h (sep 𝓤 v x)) q → ent 𝓤 (sep 𝓤 h (sep 𝓤 r x)) (sep 𝓤 r (wand 𝓤 v q))
+  group-write h r x v q p =
+      via 𝓤 (sep 𝓤 (sep 𝓤 r x) h) (comm∗ 𝓤 h (sep 𝓤 r x)) (via 𝓤 (sep 𝓤 r (sep 𝓤 x h)) (assoc∗ 𝓤 r x h) (monoR 𝓤 r (wandI 𝓤 (sep 𝓤 x h) v q
+      (via 𝓤 (sep 𝓤 v (sep 𝓤 x h)) (comm∗ 𝓤 (sep 𝓤 x h) v) (via 𝓤 (sep 𝓤 (sep 𝓤 v x) h) (assoc′ 𝓤 v x h) (via 𝓤 (sep 𝓤 h (sep 𝓤 v x)) (comm∗ 𝓤 (sep 𝓤 v x) h) p))))))
+
 module _ {M : Type 1} (𝓤 : URA M) (H : Heap 𝓤) (A : Atoms 𝓤) where
   -- the same, beside a context
   abbrev held : List (Ty × ℕ) → List Lies → SProp 𝓤
@@ -83,6 +89,22 @@ module _ {M : Type 1} (𝓤 : URA M) (H : Heap 𝓤) (A : Atoms 𝓤) where
       via 𝓤 (sep 𝓤 (held E (others cs)) (⋆ 𝓤 H A (cell e (foremost cs) ∷ ‵ (fdies (e .0) (e .1)) ∷ Γ)))
       (group-out 𝓤 (held E (others cs)) (mean 𝓤 H A (cell e (foremost cs))) (H .dies (e .0) (e .1)) (⋆ 𝓤 H A Γ) (⋆ 𝓤 H A (‵ (fdies (e .0) (e .1)) ∷ Γ))
       (push 𝓤 H A (‵ (fdies (e .0) (e .1))) Γ)) (joined E (others cs) (cell e (foremost cs) ∷ ‵ (fdies (e .0) (e .1)) ∷ Γ))
+
+  -- one of them is written
+  pub one-in : (E : List (Ty × ℕ)) (τ : Ty) (l : ℕ) (v : Val) (Γ : List (Item 𝓤)) (Q : SProp 𝓤) → T (hasTy τ v) × WT v
+      → ent 𝓤 (⋆ 𝓤 H A (lies E [] (‵ (fat fullShare τ l zero v) ∷ ‵ (fdies τ l) ∷ Γ))) Q
+      → ent 𝓤 (⋆ 𝓤 H A (lies E [] (‵ (froom τ l zero) ∷ ‵ (fdies τ l) ∷ Γ))) (write 𝓤 H τ l zero v Q)
+  one-in E τ l v Γ Q ok h =
+      via 𝓤 (sep 𝓤 (held E []) (sep 𝓤 (H .room τ l zero) Other)) (apart E [] (‵ (froom τ l zero) ∷ ‵ (fdies τ l) ∷ Γ))
+      (via 𝓤 (sep 𝓤 (H .room τ l zero) (wand 𝓤 Full Q)) (group-write 𝓤 (held E []) (H .room τ l zero) Other Full Q
+      (via 𝓤 (⋆ 𝓤 H A (lies E [] (‵ (fat fullShare τ l zero v) ∷ ‵ (fdies τ l) ∷ Γ))) (joined E [] (‵ (fat fullShare τ l zero v) ∷ ‵ (fdies τ l) ∷ Γ)) h))
+      (guardI 𝓤 (T (hasTy τ v) × WT v) (sep 𝓤 (H .room τ l zero) (wand 𝓤 Full Q)) ok))
+    where
+      Other : SProp 𝓤
+      Other = ⋆ 𝓤 H A (‵ (fdies τ l) ∷ Γ)
+
+      Full : SProp 𝓤
+      Full = H .at fullShare τ l zero v
 
   module _ (W : Given 𝓤 H A) where
     empties : (e : Ty × ℕ) (c : Lies) → ent 𝓤 (mean 𝓤 H A (cell e c)) (H .room (e .0) (e .1) zero)

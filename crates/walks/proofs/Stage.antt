@@ -7,15 +7,16 @@
 --     called                   a call of a stage, by a function that holds both, as one step of a walk: both are lent again for lifetimes of the call, and come
 --                              back at what the call has left
 -- Assumes `Given`.
-use Rattle.walks.proofs.Words.{_≡_, refl, ℕ, List, [], _∷_, length, URA, fullShare, SProp, ent, sep, id⊢, Lft, Share, GName, Fml, ftrue, flft, Heap, Env, Calls, Loops, WpFn, Tables, Atoms, sem, fact, FmC, WpFn-mono}
+use Rattle.walks.proofs.Words.{_≡_, ℕ, List, [], _∷_, length, URA, fullShare, SProp, ent, sep, id⊢, Lft, Share, GName, Fml, ftrue, flft, Heap, Env, Calls, Loops, WpFn, Tables, Atoms, sem, fact, FmC}
 use Rattle.walks.proofs.Words.{Name, Ty, Fn, MBody, named, erased, mut, w16, tyInt, tyRef, seq, call, Place, Operand, Local, imm, Val}
-use Rattle.walks.proofs.Words.{Given, Item, lands, ‵, raw, some, later, _⊛_, ⋆, Go, Post as Goes, runs, Sq, _$_, _∵_, !, qed, move, drop, use1, use2, use3, split, join, pick, fsplit, fjoin, feqL, suffices, frame, await, done, atRet, Opds, init, enter, params1, pass1, pass0, lft-new, lft-end}
-use Rattle.walks.proofs.Words.{yes, Is, shows, pointee, u16, RefT, now, sliceTy, sliceVal, MutSlice, Room, slice-vals, mut-slice-tells, plain, mutSliceOf, owned, facts, heard, nothing, calls-at, Vals, onEntry, Contract, Triple}
-use Rattle.walks.proofs.Words.{Meets, tripleOf, Clauses, Ended, ensured, lasts, closing, says, needs, Stays, stay-slice, stay-dropped, walkOf, Walks, ends-at, walked, goes-slice, goes-dropped, walk-meets, Station, owns}
-use Rattle.walks.proofs.Locals.{values, Lies, bare, has, Places, placed, lies, opens, locals-last, locals-first}
+use Rattle.walks.proofs.Words.{Given, Item, lands, ‵, raw, some, later, _⊛_, ⋆, Go, Post as Goes, runs, Sq, _$_, _∵_, !, qed, move, drop, use1, use2, use3, split, join, pick, fsplit, fjoin, feqL, suffices, frame, await, done, atRet, Opds, lft-new, lft-end}
+use Rattle.walks.proofs.Words.{Is, shows, pointee, u16, RefT, now, sliceTy, sliceVal, MutSlice, Room, plain, mutSliceOf, owned, facts, heard, nothing, calls-at, Contract, Triple, Meets, tripleOf, Clauses, Ended, ensured, lasts, closing, says, needs, ends-at, Station, Slot}
+use Rattle.walks.proofs.Locals.{values, bare, has, Places, placed, lies}
 use Rattle.walks.proofs.Datum.{Datum, row, Law}
 use Rattle.walks.proofs.Row.{R}
 use Rattle.walks.proofs.Again.{Kept, lends, comes-back}
+use Rattle.walks.proofs.Asking.{asked}
+use Rattle.walks.proofs.Entering.{Params, hands, by-value, staysOf, Post as Ends, enters}
 
 -- ---- the code's types
 abbrev pub stations : Ty
@@ -55,19 +56,14 @@ abbrev pub stage : Datum → Datum → List Ty → MBody → Fn
 stage X Y more body = record { lifetimes = 2; outlives = []; params = 3; locals = locals X Y more; body = body }
 
 -- ---- the contract
-abbrev pub ended : Datum → Datum → Ended
-ended X Y = record {
-  signature = record {
-    lifetimes = 2;
-    outlives = [];
-    params = mutSliceOf (0 ∷ []) tt (plain (λ _. R)) ∷ mutSliceOf (1 ∷ []) tt (plain (λ _. u16)) ∷ plain (λ _. row X) ∷ [];
-    result = plain (λ _. row Y);
-  };
-  kept = (yes, (yes, (yes, tt)));
-}
+abbrev slots : Datum → List (Slot 2)
+slots X = mutSliceOf (0 ∷ []) tt (plain (λ _. R)) ∷ mutSliceOf (1 ∷ []) tt (plain (λ _. u16)) ∷ plain (λ _. row X) ∷ []
 
-abbrev pub stayed : (X Y : Datum) → Stays (ended X Y .signature .params) (ended X Y .kept)
-stayed X Y = (stay-slice (0 ∷ []) tt (plain (λ _. R)), (stay-slice (1 ∷ []) tt (plain (λ _. u16)), (stay-dropped (plain (λ _. row X)) yes, tt)))
+abbrev params : (X : Datum) → Law X → Params (slots X)
+params X XL = (hands 2 0 tt R stations, (hands 2 1 tt u16 (tyInt w16), (by-value 2 X XL, tt)))
+
+abbrev pub ended : Datum → Datum → Ended
+ended X Y = asked 2 (slots X) Y
 
 abbrev pub Needs : Datum → Type 1
 Needs X = List Station → List ℕ → X .D → Type 0
@@ -148,71 +144,42 @@ sent X t x zs cs δ ε = (record { ptr = (t .b, t .o); name = δ; now = zs }, (r
 -- ---- a walk of a stage
 module _ (X : Datum) (XL : Law X) (Y : Datum) (YL : Law Y) (Need : Needs X) (T : Says X Y) {M : Type 1} (𝓤 : URA M) (H : Heap 𝓤) (A : Atoms 𝓤) (W : Given 𝓤 H A) where
   module _ (t : Two) (x : X .D) where
-    abbrev args : Arg X
-    args = sent X t x (t .ys) (t .bs) (t .γ) (t .γ₁)
-
-    abbrev at : Vals (ended X Y .signature) (t .κ, (t .κ₁, tt))
-    at = (v t ∷ [], (v₁ t ∷ [], (XL .val x ∷ [], tt)))
-
     abbrev pub Post : Val → SProp 𝓤
-    Post = walkOf 𝓤 H A (ended X Y) (stayed X Y) (clauses X Y Need T 𝓤 H A) .post (((t .κ, (t .κ₁, tt)), (t .q, (t .q₁, tt)), tt, args, at), tt)
+    Post = Ends 2 (slots X) (params X XL) Y 𝓤 H A (clauses X Y Need T 𝓤 H A) (t .κ, (t .κ₁, tt)) (t .q, (t .q₁, tt)) (sent X t x (t .ys) (t .bs) (t .γ) (t .γ₁)) tt
 
     pub exits : (r : Y .D) (y : Val) (zs : List Station) (cs : List ℕ) → Is (row Y) r (y ∷ []) → length zs ≡ length (t .ys) → length cs ≡ length (t .bs)
         → T x (t .ys) (t .bs) r zs cs → ent 𝓤 (⋆ 𝓤 H A (Holds t zs cs [])) (Post y)
     exits r y zs cs gr lz lc e =
         qed W (Holds t zs cs []) ∵
-        suffices ! _ (ends-at 𝓤 H A (ended X Y) (stayed X Y) (clauses X Y Need T 𝓤 H A) W (((t .κ, (t .κ₁, tt)), (t .q, (t .q₁, tt)), tt, args, at), tt) y r
-        (zs, (cs, (tt, tt))) (lz, (lc, (tt, tt)))) $ says ! e $
+        suffices ! _ (ends-at 𝓤 H A (ended X Y) (staysOf (slots X) (params X XL)) (clauses X Y Need T 𝓤 H A) W (
+          (
+            (t .κ, (t .κ₁, tt)),
+            (t .q, (t .q₁, tt)),
+            tt,
+            sent X t x (t .ys) (t .bs) (t .γ) (t .γ₁),
+            (v t ∷ [], (v₁ t ∷ [], (XL .val x ∷ [], tt))),
+          ),
+          tt,
+        ) y r (zs, (cs, (tt, tt))) (lz, (lc, (tt, tt)))) $ says ! e $
         nothing ! $ move ! (4 ∷ 0 ∷ []) $ join ! $ move ! (2 ∷ 0 ∷ []) $ join ! $ frame ! $ nothing ! $ nothing ! $ fjoin ! $
         move ! (2 ∷ 0 ∷ []) $ fjoin ! $ move ! (1 ∷ 0 ∷ []) $ fjoin ! $ frame ! $
         owned ! (row Y) (Is (row Y)) (YL .make 𝓤 H A W) r (y ∷ []) gr $ done !
 
     module _ (C : Calls 𝓤 H) (Λ : Loops 𝓤 H) (more : List Ty) (body : MBody) where
-      abbrev Passed : List Lies
-      Passed = bare ∷ has (v t) ∷ has (v₁ t) ∷ has (XL .val x) ∷ []
-
       -- a run of f's body, from where it has what it is lent, and its locals
       abbrev pub Runs : Type 1
-      Runs = (l : Places (locals X Y more)) → Sq W (Holds t (t .ys) (t .bs) (lies (placed (locals X Y more) l) Passed []))
+      Runs = (l : Places (locals X Y more)) → Sq W (Holds t (t .ys) (t .bs) (lies (placed (locals X Y more) l) (bare ∷ has (v t) ∷ has (v₁ t) ∷ has (XL .val x) ∷ []) []))
           (runs C Λ (placed (locals X Y more) l) body (atRet (placed (locals X Y more) l) Post))
 
-      begins : Is (row X) x (XL .val x ∷ []) → Runs → ent 𝓤 (onEntry 𝓤 H A (ended X Y .signature) (t .κ, (t .κ₁, tt)) (t .q, (t .q₁, tt)) args at)
-          (WpFn 𝓤 H C Λ (stage X Y more body) (v t ∷ v₁ t ∷ XL .val x ∷ []) Post)
-      begins gx k =
-          qed W (Both ∷ Had ∷ []) ∵ enter ! C Λ (stage X Y more body) (v t ∷ v₁ t ∷ XL .val x ∷ []) _ $
-          opens ! (λ l. locals-last ! (placed (values more) (l .1 .1 .1 .1)) [] (lies (placed (locals X Y []) (l .0, (l .1 .0, (l .1 .1 .0, (l .1 .1 .1 .0, tt)))))
-          [] (Both ∷ Had ∷ [])) $
-          params1 ! $ pass1 ! (init ! 4 refl (tt, (tt, (record { fits = t .room .0 }, tt)))) $ pass1 ! (init ! 2 refl (tt, (tt, (record { fits = t .room₁ .0 }, tt)))) $
-          pass1 ! (init ! 0 refl (XL .law 𝓤 H A W .typed x _ gx .0)) $ pass0 ! $
-          -- [_3; …; _0; the tokens; what is owned; the others]
-          move ! (9 ∷ []) $ fsplit ! $ move ! (1 ∷ []) $ fsplit ! $ move ! (1 ∷ []) $ drop ! $ move ! (10 ∷ []) $ split ! $ move ! (1 ∷ []) $ split ! $
-          move ! (1 ∷ []) $ drop ! $
-          move ! (4 ∷ 5 ∷ 6 ∷ 7 ∷ 8 ∷ 9 ∷ 10 ∷ 11 ∷ 3 ∷ 1 ∷ 2 ∷ 0 ∷ []) $
-          locals-first ! (placed (values more) (l .1 .1 .1 .1)) [] (lies (placed (locals X Y []) (l .0, (l .1 .0, (l .1 .1 .0, (l .1 .1 .1 .0, tt))))) Passed
-          (Holds t (t .ys) (t .bs) [])) $
-          locals-last ! (placed (locals X Y more) l) Passed (Holds t (t .ys) (t .bs) []) $ k l)
-        where
-          Both : Item 𝓤
-          Both = ‵ (flft (t .κ) (t .q)) ⊛ ‵ (flft (t .κ₁) (t .q₁)) ⊛ ‵ ftrue
-
-          Had : Item 𝓤
-          Had = ‵ (owns (MutSlice (named 0) (t .κ) R ∷ MutSlice (named 1) (t .κ₁) u16 ∷ row X ∷ []) args at)
-
-  module _ (𝓣 : Tables 𝓤 H) (more : List Ty) (body : MBody)
-      (walk : (t : Two) (x : X .D) → Is (row X) x (XL .val x ∷ []) → Need (t .ys) (t .bs) x → Runs t x (𝓣 .C) (𝓣 .Λ) more body) where
-    walks : Walks 𝓤 H A (ended X Y) (stayed X Y) (WpFn 𝓤 H (𝓣 .C) (𝓣 .Λ) (stage X Y more body)) (clauses X Y Need T 𝓤 H A)
-    walks = walked 𝓤 H A (ended X Y) (stayed X Y) (clauses X Y Need T 𝓤 H A) (WpFn 𝓤 H (𝓣 .C) (𝓣 .Λ) (stage X Y more body))
-        (λ κs. (slice-vals, (slice-vals, ((λ x. XL .val x ∷ []), tt))))
-        (λ κs. (mut-slice-tells (named 0) (κs .0) R, (mut-slice-tells (named 1) (κs .1 .0) u16, (XL .tells, tt))))
-        (λ κs qs bounds a g are. needs 𝓤 (Need (now (a .0)) (now (a .1 .0)) (a .1 .1 .0)) _ (λ ok.
-        let t : Two = two (κs .0) (qs .0) (a .0) (are .0 .0 .1) (κs .1 .0) (qs .1 .0) (a .1 .0) (are .1 .0 .0 .1) in
-        begins t (a .1 .1 .0) (𝓣 .C) (𝓣 .Λ) more body (are .1 .1 .0) (walk t (a .1 .1 .0) (are .1 .1 .0) ok)))
-
-    pub meets-by : Meets 𝓤 H A (ended X Y .signature) (WpFn 𝓤 H (𝓣 .C) (𝓣 .Λ) (stage X Y more body)) (closing 𝓤 H A (ended X Y) (clauses X Y Need T 𝓤 H A))
-    meets-by =
-        walk-meets 𝓤 H A (ended X Y) (stayed X Y) W
-        (goes-slice 𝓤 H A W 2 0 tt (plain (λ _. R)), (goes-slice 𝓤 H A W 2 1 tt (plain (λ _. u16)), (goes-dropped 𝓤 H A W 2 (plain (λ _. row X)) yes (λ κs x f. refl), tt)))
-        (clauses X Y Need T 𝓤 H A) (WpFn 𝓤 H (𝓣 .C) (𝓣 .Λ) (stage X Y more body)) (WpFn-mono 𝓤 H (W .laws) 𝓣 (stage X Y more body)) walks
+  pub meets-by : (𝓣 : Tables 𝓤 H) (more : List Ty) (body : MBody)
+      → ((t : Two) (x : X .D) → Is (row X) x (XL .val x ∷ []) → Need (t .ys) (t .bs) x → Runs t x (𝓣 .C) (𝓣 .Λ) more body)
+      → Meets 𝓤 H A (ended X Y .signature) (WpFn 𝓤 H (𝓣 .C) (𝓣 .Λ) (stage X Y more body)) (closing 𝓤 H A (ended X Y) (clauses X Y Need T 𝓤 H A))
+  meets-by 𝓣 more body walk = enters 2 (slots X) (params X XL) Y 3 more body 𝓤 H A (clauses X Y Need T 𝓤 H A) W 𝓣 (λ κs a. Need (a .0 .now) (a .1 .0 .now) (a .1 .1 .0))
+      (λ κs a g P Z h. needs 𝓤 (Need (a .0 .now) (a .1 .0 .now) (a .1 .1 .0)) P h) (λ κs qs a g are need l.
+      use1 W (‵ (flft (κs .0) (qs .0)) ⊛ ‵ (flft (κs .1 .0) (qs .1 .0)) ⊛ ‵ ftrue) (id⊢ 𝓤 _) $ split ! $ move ! (1 ∷ []) $ split ! $ move ! (1 ∷ []) $ drop ! $
+      -- [κ₁; κ; what is owned; …]
+      move ! (2 ∷ []) $ fsplit ! $ move ! (1 ∷ []) $ fsplit ! $ move ! (1 ∷ []) $ drop ! $ move ! (1 ∷ 3 ∷ 0 ∷ 2 ∷ []) $
+      walk (two (κs .0) (qs .0) (a .0) (are .0 .0 .1) (κs .1 .0) (qs .1 .0) (a .1 .0) (are .1 .0 .0 .1)) (a .1 .1 .0) (are .1 .1 .0) need l)
 
 -- ---- a call of a stage
 module _ (X : Datum) (XL : Law X) (Y : Datum) (Need : Needs X) (T : Says X Y) (#g : Name) {M : Type 1} (𝓤 : URA M) (H : Heap 𝓤) (A : Atoms 𝓤) (W : Given 𝓤 H A)

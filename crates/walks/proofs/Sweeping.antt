@@ -4,8 +4,8 @@
 --         while i < reg.len() { s = c(s, reg[i], q, i); i += 1; }
 --         s
 --     }
--- f gives what `swept` of c and start comes to.
---     more, body, with its parts turn and at-end   f's further locals, and its MIR.        ended, clauses       its contract.        TheStart, TheC       theirs
+-- f is a look (`Looking.antt`), and gives what `swept` of c and start comes to.
+--     more, body, with its parts turn and at-end   f's further locals, and its MIR.        TheStart, TheC       the callees' contracts
 --     Meaning      what f and each callee give and need.        Enough       an invariant that gives what c needs, and what the sweep comes to
 --     meets        f meets its contract, from theirs
 -- Assumes `Given`.
