@@ -10,7 +10,8 @@
 use Rattle.walks.proofs.Words.{_≡_, refl, sym, ap, subst, _∙_, ℕ, Bool, true, false, not, List, [], _∷_, length, T}
 use Rattle.walks.proofs.Words.{URA, fullShare, SProp, ent, emp, id⊢, via, fst∗, Lft, Share, ftrue, fat, flft, Heap, WpFn, Tables, Atoms, toks, fact, FmC, fmOf}
 use Rattle.walks.proofs.Words.{Name, Ty, MBody, named, imm, w8, w16, w64, tyInt, tyBool, tyRef, place, field, copy, seq, assign, cond, skip, call, return, rvOpd, Local, Val, vint, vbool}
-use Rattle.walks.proofs.Words.{Given, ‵, raw, _⊛_, ⋆, atRet, _$_, _∵_, !, qed, by, move, drop, use1, split, join, rewrite, fsplit, fjoin, suffices, frame, done, runs, Sq, whole, sub, look-in, skips, branches, look, init, stop, fld, from, load, of-opd, and-then, no-more, assigns, first, land, returns, returns-within, exec}
+use Rattle.walks.proofs.Words.{Given, ‵, raw, _⊛_, ⋆, atRet, _$_, _∵_, !, qed, by, move, drop, use1, split, join, rewrite, fsplit, fjoin, suffices, frame, done, runs, Sq, whole}
+use Rattle.walks.proofs.Words.{sub, look-in, skips, branches, look, init, stop, fld, from, load, of-opd, and-then, no-more, assigns, first, land, returns, returns-within, exec}
 use Rattle.walks.proofs.Words.{Is, uint-makes, bool-lawful, u8, u16, usize, RefT, now, sliceTy, sliceVal, ShrSlice, Room, Slot, plain, mutSliceOf, shrSliceOf, only, owned, nothing, Contract, Triple, Meets, Clauses, Ended, closing, says, ends-at, Station, stationTy}
 use Rattle.walks.proofs.Datum.{Datum, row, Law, truth, is-true, is-false}
 use Rattle.walks.proofs.Row.{R}

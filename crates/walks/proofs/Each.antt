@@ -7,7 +7,8 @@
 use Rattle.walks.proofs.Words.{_≡_, refl, sym, ap, subst, _∙_, ℕ, _+_, _-_, _≤_, _<_, _^_, zero-le, lt-of-le-of-lt, add-one-le, add-one-dec, Bool, true, false, not, WellFounded, InvImage·wf, List, [], _∷_, map, length, set, getD, Nat·lt-wfRel, T, ltb, ltb→lt, nltb→le, lit<}
 use Rattle.walks.proofs.Words.{URA, fullShare, SProp, emp, id⊢, fat, Heap, Out, Env, afterSeq, afterBlock, afterTurn, Wp, WpFn, atReturn, Tables, Atoms, toks, FmC, fmOf}
 use Rattle.walks.proofs.Words.{Name, MBody, w64, tyInt, tyBool, tyPtr, place, field, deref, unsigned, copy as copyᴹ, int, opdUnit, seq, assign, cond, block, loop, skip, exit, call, return, rvOpd, op2, add, mul, lt, offset, Ty, Val, vint, vptr, vbool}
-use Rattle.walks.proofs.Words.{Given, Item, ‵, raw, runs, anyQ, atRet, Sq, _$_, !, by, move, drop, use0, rewrite, fjoin, whole, sub, look-in, look, look-raw, init, store, store-raw, forget, stop, hop, fld, from, load, lit, unit-lit, of-opd, bin, and-then, no-more, assigns, assigns-last, first, blocks, stays, leaves-loop, land, returns, exec, Below, again, loops}
+use Rattle.walks.proofs.Words.{Given, Item, ‵, raw, runs, anyQ, atRet, Sq, _$_, !, by, move, drop, use0, rewrite, fjoin, whole, sub, look-in, look, look-raw, init, store, store-raw, forget, stop, hop}
+use Rattle.walks.proofs.Words.{fld, from, load, lit, unit-lit, of-opd, bin, and-then, no-more, assigns, assigns-last, first, blocks, stays, leaves-loop, land, returns, exec, Below, again, loops}
 use Rattle.walks.proofs.Words.{Is, shows, place-is, elem-out, elem-back, elem-put, closes-slice, owned, nothing, Contract, Triple, Meets, closing, Station, blank, stationTy}
 use Rattle.walks.proofs.Datum.{Datum, row, Law}
 use Rattle.walks.proofs.Row.{R, StationD, vals, tells, makes, lawful, stride, bytes}

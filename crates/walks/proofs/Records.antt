@@ -5,8 +5,10 @@
 -- Assumes `Given`.
 use Rattle.walks.proofs.Words.{_≡_, refl, sym, ap, _∙_, ℕ, _<_, List, [], _∷_, length, getD, URA, fullShare, ent, emp, id⊢, ftrue, fat, flft, Heap, WpFn, Tables, Atoms, Lfts, Shares, toks, fact, FmC, fmOf}
 use Rattle.walks.proofs.Words.{Name, w64, tyInt, tyPtr, place, field, deref, unsigned, copy as copyᴹ, int, seq, assign, call, return, rvOpd, op2, mul, offset, Ty, MBody, Val, vint, vptr}
-use Rattle.walks.proofs.Words.{Given, ‵, raw, _⊛_, ⋆, _$_, _∵_, !, qed, by, move, drop, use0, split, join, rewrite, fsplit, fjoin, suffices, frame, done, use1, whole, sub, look-in, look, look-raw, init, stop, hop, fld, from, load, lit, of-opd, bin, and-then, no-more, assigns, land, returns}
-use Rattle.walks.proofs.Words.{Is, shows, uint-lawful, RefT, now, Slot, plain, shrSliceOf, sliceVal, place-is, elem-out, elem-back, looks-slice, shuts-slice, only, owned, nothing, Contract, Triple, Meets, Clauses, Ended, closing, says, needs, ends-at, Station, blank, stationTy, pointee}
+use Rattle.walks.proofs.Words.{Given, ‵, raw, _⊛_, ⋆, _$_, _∵_, !, qed, by, move, drop, use0, split, join, rewrite, fsplit, fjoin, suffices, frame, done, use1, whole}
+use Rattle.walks.proofs.Words.{sub, look-in, look, look-raw, init, stop, hop, fld, from, load, lit, of-opd, bin, and-then, no-more, assigns, land, returns}
+use Rattle.walks.proofs.Words.{Is, shows, uint-lawful, RefT, now, Slot, plain, shrSliceOf, sliceVal, place-is, elem-out, elem-back, looks-slice, shuts-slice, only}
+use Rattle.walks.proofs.Words.{owned, nothing, Contract, Triple, Meets, Clauses, Ended, closing, says, needs, ends-at, Station, blank, stationTy, pointee}
 use Rattle.walks.proofs.Datum.{Datum, row, Law, number}
 use Rattle.walks.proofs.Row.{R, vals, tells, makes, copy, lawful, stride, bytes}
 use Rattle.walks.proofs.Asking.{The, asks, asks-one}

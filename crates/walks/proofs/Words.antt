@@ -22,12 +22,15 @@ pub use ghost.Atoms.{Atoms, sem}
 pub use contract.Lifetimes.{Lfts, Shares, toks}
 pub use contract.Monad.{fact, factI}
 pub use sound.WpLaws.{FmC, fmOf, WpFn-mono}
-pub use mir.Syntax.{Lifetime, Mutability, w64, tyInt, Ty, Body as MBody, tyRef, place, field, deref, copy, seq, assign, addrOf, aggregate, Name, Place, Opd as Operand, call, named, imm, w8, w16, tyBool, cond, skip, return, rvOpd, Local, Fn, mut, tyUnit, Written, Width, tyPtr, unsigned, int, opdUnit, block, loop, exit, op2, add, mul, lt, offset, local, valueLocal, erased}
+pub use mir.Syntax.{Lifetime, Mutability, w64, tyInt, Ty, Body as MBody, tyRef, place, field, deref, copy, seq, assign, addrOf, aggregate, Name, Place, Opd as Operand, call, named, imm, w8, w16, tyBool}
+pub use mir.Syntax.{cond, skip, return, rvOpd, Local, Fn, mut, tyUnit, Written, Width, tyPtr, unsigned, int, opdUnit, block, loop, exit, op2, add, mul, lt, offset, local, valueLocal, erased}
 pub use mir.Val.{Val, vptr, vint, vbool, vunit, hasTy, WT}
-pub use types.Kit.{Given, ‵, _⊛_, some, later, _$_, _∵_, !, qed, move, use1, use3, drop, rewrite, split, pick, fsplit, fjoin, frame, await, updating, now as at-once, show, done, nth, put, Step, step, Post, Item, runs, Go, raw, lands, Sq, use0, use2, join, ⋆, atRet, by, suffices, feqI, anyQ, aim, Goal, Soaks, settles, feqL, Seq, mean, push, pop, ⊢++, ++⊢, allocs, frees}
+pub use types.Kit.{Given, ‵, _⊛_, some, later, _$_, _∵_, !, qed, move, use1, use3, drop, rewrite, split, pick, fsplit, fjoin, frame, await, updating, now as at-once, show, done, nth, put, Step, step}
+pub use types.Kit.{Post, Item, runs, Go, raw, lands, Sq, use0, use2, join, ⋆, atRet, by, suffices, feqI, anyQ, aim, Goal, Soaks, settles, feqL, Seq, mean, push, pop, ⊢++, ++⊢, allocs, frees}
 pub use types.SemTy.{Arr}
 pub use types.Part.{Part, agg, whole, sub, look-in}
-pub use types.Run.{Walks as Ways, Finds, look, init, stop, hop, fld, from, load, addr, and-then, no-more, assigns, Opds, skips, branches, of-opd, first, land, returns, returns-within, exec, look-raw, store, store-raw, forget, lit, unit-lit, bin, assigns-last, blocks, stays, leaves-loop, Below, again, loops, enter, params1, Opd, alloc1, alloc0, land-last}
+pub use types.Run.{Walks as Ways, Finds, look, init, stop, hop, fld, from, load, addr, and-then, no-more, assigns, Opds, skips, branches, of-opd, first, land, returns, returns-within}
+pub use types.Run.{exec, look-raw, store, store-raw, forget, lit, unit-lit, bin, assigns-last, blocks, stays, leaves-loop, Below, again, loops, enter, params1, Opd, alloc1, alloc0, land-last}
 pub use types.Share.{arr-parts}
 pub use types.Tokens.{lft-new, lft-end, lent-back}
 pub use Rattle.ship.proofs.Station.Laws.{mir as stationTy}
