@@ -3,19 +3,20 @@
 --     meets        f meets its contract, from theirs
 -- Assumes `Given`.
 use Rattle.walks.proofs.Words.{_≡_, refl, sym, ap, subst, _∙_, ℕ, _+_, _-_, _≤_, _<_, _^_, zero-le, lt-of-le-of-lt, le-antisymm, add-one-le, add-one-dec, Bool, true, false, not, WellFounded, InvImage·wf, List, [], _∷_, length, Nat·lt-wfRel, T, ltb, ltb→lt, nltb→le, lit<}
-use Rattle.walks.proofs.Words.{URA, fullShare, SProp, ent, emp, id⊢, Lft, Share, Fml, ftrue, fat, flft, Heap, Out, Env, afterSeq, afterBlock, afterTurn, Calls, Loops, Wp, WpFn, atReturn, Tables, Atoms, Lfts, Shares, toks, fact, factI, FmC, fmOf, WpFn-mono}
+use Rattle.walks.proofs.Words.{URA, fullShare, SProp, ent, emp, id⊢, Lft, Share, Fml, ftrue, fat, flft, Heap, Out, Env, afterSeq, afterBlock, afterTurn, Calls, Loops, Wp, WpFn, atReturn, Tables, Atoms, Lfts, Shares, toks, fact, factI, FmC, fmOf}
 use Rattle.walks.proofs.Words.{Name, Operand, named, w64, tyInt, tyBool, loop, Val, vint, vbool}
 use Rattle.walks.proofs.Words.{Given, Item, ‵, raw, _⊛_, ⋆, runs, anyQ, atRet, Sq, _$_, _∵_, !, qed, by, move, keep, drop, use0, use1, split, join, rewrite, fsplit, fjoin, suffices, frame, done}
-use Rattle.walks.proofs.Words.{look, init, store, forget, stop, from, lit, of-opd, bin, and-then, no-more, assigns, assigns-last, first, blocks, stays, leaves-loop, land, returns, enter, exec, params1, pass1, pass0, Below, again, loops}
-use Rattle.walks.proofs.Words.{yes, owns, Is, uint-makes, uint-lawful, u16, usize, RefT, now, plain, shrSliceOf, sliceVal, ShrSlice, Room, slice-vals, shr-slice-tells, shr-slice-copy, only, owned, nothing, Vals, onEntry, Contract, Triple, Meets, Clauses, closing, says, needs, walkOf, Walks, ends-at, walked, goes-dropped, walk-meets, Station}
+use Rattle.walks.proofs.Words.{look, init, store, forget, stop, from, lit, of-opd, bin, and-then, no-more, assigns, assigns-last, first, blocks, stays, leaves-loop, land, returns, exec, Below, again, loops}
+use Rattle.walks.proofs.Words.{Is, uint-makes, uint-lawful, u16, usize, RefT, now, plain, sliceVal, ShrSlice, shr-slice-copy, only, owned, nothing, Contract, Triple, Meets, Clauses, closing, says, needs, ends-at, Station}
 use Rattle.walks.specs.Folded.{folded}
 use Rattle.walks.proofs.Folds.{folded-none, folded-more}
 use Rattle.walks.proofs.Datum.{Datum, row, Law, number}
 use Rattle.walks.proofs.Row.{R}
 use Rattle.walks.proofs.Asking.{The, asks, asks-one}
-use Rattle.walks.proofs.Locals.{Places, placed, bare, has, lies, opens, leaves, read}
+use Rattle.walks.proofs.Locals.{Places, placed, bare, has, lies, leaves, read}
+use Rattle.walks.proofs.Entering.{Post, staysOf, function, enters}
 use Rattle.walks.proofs.Lookups.{Looking}
-use Rattle.walks.proofs.FoldingCode.{at-end, turn, locals, function, ended, stayed, startSlots, aSlots, cSlots}
+use Rattle.walks.proofs.FoldingCode.{at-end, turn, slots, params, more, body, locals, ended, aSlots, cSlots}
 
 -- what is folded, and what is needed
 pub record Meaning (Q X Y S : Datum) : Type 2 where
@@ -45,7 +46,7 @@ module _ {Q X Y S : Datum} (m : Meaning Q X Y S) where
     pub comes-to : (ys : List Station) (bs : List ℕ) (k : Q .D) → m .Need ys bs k → after ys bs k (m .turns k) ≡ m .gives ys bs k
 
 module _ (Q X Y S : Datum) (m : Meaning Q X Y S) {M : Type 1} (𝓤 : URA M) (H : Heap 𝓤) (A : Atoms 𝓤) where
-  abbrev pub clauses : Clauses 𝓤 (ended Q X Y S)
+  abbrev pub clauses : Clauses 𝓤 (ended Q S)
   clauses κs a = record {
     ghost = Unit {0};
     requires = λ _. fact 𝓤 (m .Need (now (a .0)) (now (a .1 .0)) (a .1 .1 .0));
@@ -53,13 +54,13 @@ module _ (Q X Y S : Datum) (m : Meaning Q X Y S) {M : Type 1} (𝓤 : URA M) (H 
   }
 
   abbrev pub TheStart : Contract 𝓤
-  TheStart = The 𝓤 H A 0 (startSlots Q X Y S) S (λ κs a. emp 𝓤) (λ κs a. m .start (a .0))
+  TheStart = The 𝓤 H A 0 (plain (λ _. row Q) ∷ []) S (λ κs a. emp 𝓤) (λ κs a. m .start (a .0))
 
   abbrev pub TheTurns : Contract 𝓤
-  TheTurns = The 𝓤 H A 0 (startSlots Q X Y S) (number w64) (λ κs a. emp 𝓤) (λ κs a. m .turns (a .0))
+  TheTurns = The 𝓤 H A 0 (plain (λ _. row Q) ∷ []) (number w64) (λ κs a. emp 𝓤) (λ κs a. m .turns (a .0))
 
   abbrev pub TheA : Contract 𝓤
-  TheA = The 𝓤 H A 1 (aSlots Q X Y S) X (λ κs a. fact 𝓤 (m .NeedA (now (a .0)) (a .1 .1 .0) (a .1 .0) (a .1 .1 .1 .0)))
+  TheA = The 𝓤 H A 1 (aSlots Q S) X (λ κs a. fact 𝓤 (m .NeedA (now (a .0)) (a .1 .1 .0) (a .1 .0) (a .1 .1 .1 .0)))
       (λ κs a. m .a (now (a .0)) (a .1 .1 .0) (a .1 .0) (a .1 .1 .1 .0))
 
   abbrev pub TheC : Contract 𝓤
@@ -78,11 +79,7 @@ module _ (Q X Y S : Datum) (m : Meaning Q X Y S) {M : Type 1} (𝓤 : URA M) (H 
     fm : FmC 𝓤 H (W .laws) (𝓣 .C)
     fm = fmOf 𝓤 H (W .laws) 𝓣
 
-    abbrev runs-f : List Val → (Val → SProp 𝓤) → SProp 𝓤
-    runs-f = WpFn 𝓤 H (𝓣 .C) (𝓣 .Λ) (function Q X Y S #start #turns #a #b #c ops)
-
-    module _ (κs : Lfts 2) (qs : Shares 2) (a : RefT (List Station) × (RefT (List ℕ) × (Q .D × Unit {0}))) (gn : Room R (length (a .0 .now)))
-        (g₁ : Room u16 (length (a .1 .0 .now))) (gk : Is (row Q) (a .1 .1 .0) (QL .val (a .1 .1 .0) ∷ []))
+    module _ (κs : Lfts 2) (qs : Shares 2) (a : RefT (List Station) × (RefT (List ℕ) × (Q .D × Unit {0}))) (gk : Is (row Q) (a .1 .1 .0) (QL .val (a .1 .1 .0) ∷ []))
         (need : m .Need (a .0 .now) (a .1 .0 .now) (a .1 .1 .0)) where
       abbrev κ : Lft
       κ = κs .0
@@ -111,11 +108,8 @@ module _ (Q X Y S : Datum) (m : Meaning Q X Y S) {M : Type 1} (𝓤 : URA M) (H 
       abbrev v₁ : Val
       v₁ = sliceVal (a .1 .0 .ptr) (length bs)
 
-      abbrev at : Vals (ended Q X Y S .signature) κs
-      at = (v ∷ [], (v₁ ∷ [], (QL .val k ∷ [], tt)))
-
-      abbrev Post : Val → SProp 𝓤
-      Post = walkOf 𝓤 H A (ended Q X Y S) (stayed Q X Y S) clauses .post ((κs, qs, tt, a, at), tt)
+      abbrev Ends : Val → SProp 𝓤
+      Ends = Post 2 (slots Q) (params Q QL) S 𝓤 H A clauses κs qs a tt
 
       abbrev Reg : Fml
       Reg = ShrSlice (named 0) κ R .own (a .0) (v ∷ [])
@@ -123,10 +117,11 @@ module _ (Q X Y S : Datum) (m : Meaning Q X Y S) {M : Type 1} (𝓤 : URA M) (H 
       abbrev Book : Fml
       Book = ShrSlice (named 1) κ₁ u16 .own (a .1 .0) (v₁ ∷ [])
 
-      exits : (r : S .D) (u : Val) → Is (row S) r (u ∷ []) → r ≡ m .gives ys bs k → ent 𝓤 (⋆ 𝓤 H A (‵ (flft κ q) ∷ ‵ (flft κ₁ q₁) ∷ [])) (Post u)
+      exits : (r : S .D) (u : Val) → Is (row S) r (u ∷ []) → r ≡ m .gives ys bs k → ent 𝓤 (⋆ 𝓤 H A (‵ (flft κ q) ∷ ‵ (flft κ₁ q₁) ∷ [])) (Ends u)
       exits r u gr e =
           qed W (‵ (flft κ q) ∷ ‵ (flft κ₁ q₁) ∷ []) ∵
-          suffices ! _ (ends-at 𝓤 H A (ended Q X Y S) (stayed Q X Y S) clauses W ((κs, qs, tt, a, at), tt) u r (tt, (tt, (tt, tt))) (tt, (tt, (tt, tt)))) $
+          suffices ! _ (ends-at 𝓤 H A (ended Q S) (staysOf (slots Q) (params Q QL)) clauses W
+          ((κs, qs, tt, a, (v ∷ [], (v₁ ∷ [], (QL .val k ∷ [], tt)))), tt) u r (tt, (tt, (tt, tt))) (tt, (tt, (tt, tt)))) $
           says ! e $ nothing ! $ move ! (2 ∷ 0 ∷ []) $ join ! $ move ! (1 ∷ 0 ∷ []) $ join ! $ frame ! $
           nothing ! $ nothing ! $ fjoin ! $ nothing ! $ fjoin ! $ nothing ! $ fjoin ! $ frame ! $
           owned ! (row S) (Is (row S)) (SL .make 𝓤 H A W) r (u ∷ []) gr $ done !
@@ -157,7 +152,7 @@ module _ (Q X Y S : Datum) (m : Meaning Q X Y S) {M : Type 1} (𝓤 : URA M) (H 
             ∷ lies En (bare ∷ has v ∷ has v₁ ∷ has (QL .val k) ∷ has (j .w) ∷ has (vint w64 (m .turns k)) ∷ has (vint w64 (j .i)) ∷ []) []
 
         abbrev After : Out → SProp 𝓤
-        After = afterBlock 𝓤 H (afterSeq 𝓤 H (Wp 𝓤 H C Λ En at-end (atReturn 𝓤 H En Post)) (atReturn 𝓤 H En Post))
+        After = afterBlock 𝓤 H (afterSeq 𝓤 H (Wp 𝓤 H C Λ En at-end (atReturn 𝓤 H En Ends)) (atReturn 𝓤 H En Ends))
 
         abbrev Turned : Upto → Out → SProp 𝓤
         Turned j = afterTurn 𝓤 H (Below 𝓤 H A Nearer Here j) After
@@ -174,7 +169,7 @@ module _ (Q X Y S : Datum) (m : Meaning Q X Y S) {M : Type 1} (𝓤 : URA M) (H 
             owned ! (row S) (Is (row S)) (SL .make 𝓤 H A W) (j .s) (j .w ∷ []) (j .is) $ fjoin ! $ move ! (1 ∷ 0 ∷ []) $ fjoin ! $
             -- [what a is handed; the book; the register; its token; the book's; …]
             nothing ! $ move ! (5 ∷ 0 ∷ []) $ join ! $ use1 W (raw (toks 𝓤 A 1 (κ₁, tt) (q₁, tt))) (id⊢ 𝓤 _) $
-            asks 𝓤 H A 1 (aSlots Q X Y S) X (λ κs b. fact 𝓤 (m .NeedA (now (b .0)) (b .1 .1 .0) (b .1 .0) (b .1 .1 .1 .0)))
+            asks 𝓤 H A 1 (aSlots Q S) X (λ κs b. fact 𝓤 (m .NeedA (now (b .0)) (b .1 .1 .0) (b .1 .0) (b .1 .1 .1 .0)))
             (λ κs b. m .a (now (b .0)) (b .1 .1 .0) (b .1 .0) (b .1 .1 .1 .0)) W (κ₁, tt) (q₁, tt) (a .1 .0, (j .s, (k, (j .i, tt))))
             (v₁ ∷ [], (j .w ∷ [], (QL .val k ∷ [], (vint w64 (j .i) ∷ [], tt)))) fm k-a (factI 𝓤 (m .NeedA bs k (j .s) (j .i)) (emp 𝓤) for-a)
             (and-then ! (read ! 18 refl) (and-then ! (read ! 14 refl)
@@ -240,7 +235,7 @@ module _ (Q X Y S : Datum) (m : Meaning Q X Y S) {M : Type 1} (𝓤 : URA M) (H 
         turn-at j false e =
             assigns ! (bin ! (read ! 10 refl) (read ! 12 refl) tt) (from ! (stop !)) (init ! 4 refl (tt, tt)) $
             rewrite ! 4 (λ (t : Bool). ‵ (fat fullShare tyBool (l .1 .1 .1 .1 .1 .1 .1 .1 .1 .0) 0 (vbool t))) e refl $ leaves-loop ! (read ! 4 refl) $
-            exec ! C Λ En at-end (atRet En Post) $
+            exec ! C Λ En at-end (atRet En Ends) $
             assigns ! (of-opd ! (read ! 14 refl)) (from ! (stop !)) (init ! 22 refl (SL .law 𝓤 H A W .typed (j .s) _ (j .is) .0)) $
             returns ! (look ! 22 refl) $
             leaves ! 4 (has _ ∷ has _ ∷ has _ ∷ has _ ∷ has _ ∷ has _ ∷ has _ ∷ bare ∷ bare ∷ has _ ∷ []) refl $ keep ! (1 ∷ 3 ∷ []) $
@@ -255,43 +250,21 @@ module _ (Q X Y S : Datum) (m : Meaning Q X Y S) {M : Type 1} (𝓤 : URA M) (H 
         looped : (j : Upto) → Sq W (Here j) (runs C Λ En (loop (turn #a #b #c ops)) (anyQ After))
         looped j = loops ! 𝓣 Nearer Nearer-wf Here (λ h. turn-at h (ltb (h .i) (m .turns k)) refl) j
 
-      walk : ent 𝓤 (onEntry 𝓤 H A (ended Q X Y S .signature) κs qs a at) (runs-f (v ∷ v₁ ∷ QL .val k ∷ []) Post)
-      walk =
-          qed W ((‵ (flft κ q) ⊛ ‵ (flft κ₁ q₁) ⊛ ‵ ftrue) ∷ ‵ (owns (ShrSlice (named 0) κ R ∷ ShrSlice (named 1) κ₁ u16 ∷ row Q ∷ []) a at) ∷ []) ∵
-          enter ! C Λ (function Q X Y S #start #turns #a #b #c ops) (v ∷ v₁ ∷ QL .val k ∷ []) _ $
-          opens ! (λ l. params1 ! $
-          pass1 ! (init ! 16 refl (tt, (tt, (record { fits = gn .0 }, tt)))) $ pass1 ! (init ! 14 refl (tt, (tt, (record { fits = g₁ .0 }, tt)))) $
-          pass1 ! (init ! 12 refl (QL .law 𝓤 H A W .typed k _ gk .0)) $ pass0 ! $
-          -- [_9; …; _0; the tokens; what is owned]
-          move ! (21 ∷ []) $ fsplit ! $ move ! (1 ∷ []) $ fsplit ! $ move ! (1 ∷ []) $ drop ! $ move ! (22 ∷ []) $ split ! $ move ! (1 ∷ []) $ split ! $
-          move ! (1 ∷ []) $ drop ! $
-          -- [κ₁; κ; the book; the register; _9; …]
-          move ! (3 ∷ 1 ∷ 2 ∷ 0 ∷ []) $
-          -- s = start(q)
-          asks-one 𝓤 H A W Q QL S (m .start) k (QL .val k) gk fm k-start (and-then ! (read ! 17 refl) (no-more !)) (λ s w es gs.
-          land ! (from ! (stop !)) (init ! 14 refl (SL .law 𝓤 H A W .typed s _ gs .0)) $
-          -- n = turns(q)
-          asks-one 𝓤 H A W Q QL (number w64) (m .turns) k (QL .val k) gk fm k-turns (and-then ! (read ! 17 refl) (no-more !)) (λ n u en gt.
-          land ! (from ! (stop !)) (init ! 12 refl (uint-lawful 𝓤 H A W w64 .typed n _ gt .0)) $
-          rewrite ! 12 (λ (z : Val). ‵ (fat fullShare (tyInt w64) (l .1 .1 .1 .1 .1 .0) 0 z)) (ap only (gt .0) ∙ ap (vint w64) en) refl $
-          assigns ! (of-opd ! (lit ! tt)) (from ! (stop !)) (init ! 10 refl (tt, record { fits = lit< tt })) $
-          first ! $ blocks ! $ looped l (subst (λ (t : ℕ). t < 2 ^ 64) en (gt .1))
-          (record { i = 0; s = s; w = w; is = gs; few = zero-le; done-so-far = es ∙ folded-none (m .start k) (m .a bs k) (m .b ys bs k) (m .c k) }))))
-
-    walks : Walks 𝓤 H A (ended Q X Y S) (stayed Q X Y S) runs-f clauses
-    walks = walked 𝓤 H A (ended Q X Y S) (stayed Q X Y S) clauses runs-f
-        (λ κs. (slice-vals, (slice-vals, ((λ x. QL .val x ∷ []), tt))))
-        (λ κs. (shr-slice-tells (named 0) (κs .0) R, (shr-slice-tells (named 1) (κs .1 .0) u16, (QL .tells, tt))))
-        (λ κs qs bounds a g are. needs 𝓤 (m .Need (now (a .0)) (now (a .1 .0)) (a .1 .1 .0)) _
-        (λ need. walk κs qs a (are .0 .0 .1) (are .1 .0 .0 .1) (are .1 .1 .0) need))
-
-    pub meets : Meets 𝓤 H A (ended Q X Y S .signature) runs-f (closing 𝓤 H A (ended Q X Y S) clauses)
-    meets =
-        walk-meets 𝓤 H A (ended Q X Y S) (stayed Q X Y S) W (
-          goes-dropped 𝓤 H A W 2 (shrSliceOf (0 ∷ []) tt (plain (λ _. R))) yes (λ κs x f. refl),
-          (
-            goes-dropped 𝓤 H A W 2 (shrSliceOf (1 ∷ []) tt (plain (λ _. u16))) yes (λ κs x f. refl),
-            (goes-dropped 𝓤 H A W 2 (plain (λ _. row Q)) yes (λ κs x f. refl), tt),
-          ),
-        )
-        clauses runs-f (WpFn-mono 𝓤 H (W .laws) 𝓣 (function Q X Y S #start #turns #a #b #c ops)) walks
+    pub meets : Meets 𝓤 H A (ended Q S .signature) (WpFn 𝓤 H (𝓣 .C) (𝓣 .Λ) (function 2 (slots Q) (params Q QL) S 3 (more X Y S) (body #start #turns #a #b #c ops)))
+        (closing 𝓤 H A (ended Q S) clauses)
+    meets = enters 2 (slots Q) (params Q QL) S 3 (more X Y S) (body #start #turns #a #b #c ops) 𝓤 H A clauses W 𝓣 (λ κs a. m .Need (a .0 .now) (a .1 .0 .now) (a .1 .1 .0))
+        (λ κs a g P Z h. needs 𝓤 (m .Need (a .0 .now) (a .1 .0 .now) (a .1 .1 .0)) P h) (λ κs qs a g are need l.
+        use1 W (‵ (flft (κs .0) (qs .0)) ⊛ (‵ (flft (κs .1 .0) (qs .1 .0)) ⊛ ‵ ftrue)) (id⊢ 𝓤 _) $ split ! $ move ! (1 ∷ []) $ split ! $ move ! (1 ∷ []) $ drop ! $
+        move ! (2 ∷ []) $ fsplit ! $ move ! (1 ∷ []) $ fsplit ! $ move ! (1 ∷ []) $ drop ! $
+        -- [the book; the register; κ₁; κ; _9; …]
+        move ! (1 ∷ 3 ∷ 0 ∷ 2 ∷ []) $
+        -- s = start(q)
+        asks-one 𝓤 H A W Q QL S (m .start) (a .1 .1 .0) (QL .val (a .1 .1 .0)) (are .1 .1 .0) fm k-start (and-then ! (read ! 17 refl) (no-more !)) (λ s w es gs.
+        land ! (from ! (stop !)) (init ! 14 refl (SL .law 𝓤 H A W .typed s _ gs .0)) $
+        -- n = turns(q)
+        asks-one 𝓤 H A W Q QL (number w64) (m .turns) (a .1 .1 .0) (QL .val (a .1 .1 .0)) (are .1 .1 .0) fm k-turns (and-then ! (read ! 17 refl) (no-more !)) (λ n u en gt.
+        land ! (from ! (stop !)) (init ! 12 refl (uint-lawful 𝓤 H A W w64 .typed n _ gt .0)) $
+        rewrite ! 12 (λ (z : Val). ‵ (fat fullShare (tyInt w64) (l .1 .1 .1 .1 .1 .0) 0 z)) (ap only (gt .0) ∙ ap (vint w64) en) refl $
+        assigns ! (of-opd ! (lit ! tt)) (from ! (stop !)) (init ! 10 refl (tt, record { fits = lit< tt })) $
+        first ! $ blocks ! $ looped κs qs a (are .1 .1 .0) need l (subst (λ (t : ℕ). t < 2 ^ 64) en (gt .1))
+        (record { i = 0; s = s; w = w; is = gs; few = zero-le; done-so-far = es ∙ folded-none (m .start (a .1 .1 .0)) _ _ _ }))))

@@ -2,7 +2,7 @@
 -- steps of a walk, the contracts. Assumes nothing.
 pub use mathlib.Core.Path.{_≡_, refl, sym, ap, subst, _∙_}
 pub use Prim.Native.Nat.{ℕ, _<_, _^_, zero, suc, _+_, _≤_, _-_, zero-le, _*_}
-pub use native.Mathlib.Nat.{not-suc-le-zero, le-of-suc-le-suc, lt-of-le-of-lt, zero-add, add-zero}
+pub use native.Mathlib.Nat.{not-suc-le-zero, le-of-suc-le-suc, lt-of-le-of-lt, le-antisymm, zero-add, add-zero}
 pub use native.Mathlib.Numerals.{add-one, add-one-le, add-one-dec}
 pub use mathlib.Core.Bool.{Bool, true, false, not}
 pub use mathlib.Core.WellFounded.{WellFounded, InvImage·wf}
@@ -25,7 +25,7 @@ pub use sound.WpLaws.{FmC, fmOf, WpFn-mono}
 pub use mir.Syntax.{Lifetime, Mutability, w64, tyInt, Ty, Body as MBody, tyRef, place, field, deref, copy, seq, assign, addrOf, aggregate, Name, Place, Opd as Operand, call, named, imm, w8, w16, tyBool}
 pub use mir.Syntax.{cond, skip, return, rvOpd, Local, Fn, mut, tyUnit, Written, Width, tyPtr, unsigned, int, opdUnit, block, loop, exit, op2, add, mul, lt, offset, local, valueLocal, erased}
 pub use mir.Val.{Val, vptr, vint, vbool, vunit, hasTy, WT}
-pub use types.Kit.{Given, ‵, _⊛_, some, later, _$_, _∵_, !, qed, move, use1, use3, drop, rewrite, split, pick, fsplit, fjoin, frame, await, updating, now as at-once, show, done, nth, put, Step, step}
+pub use types.Kit.{keep, Given, ‵, _⊛_, some, later, _$_, _∵_, !, qed, move, use1, use3, drop, rewrite, split, pick, fsplit, fjoin, frame, await, updating, now as at-once, show, done, nth, put, Step, step}
 pub use types.Kit.{Post, Item, runs, Go, raw, lands, Sq, use0, use2, join, ⋆, atRet, by, suffices, feqI, anyQ, aim, Goal, Soaks, settles, feqL, Seq, mean, push, pop, ⊢++, ++⊢, allocs, frees}
 pub use types.SemTy.{Arr}
 pub use types.Part.{Part, agg, whole, sub, look-in}
