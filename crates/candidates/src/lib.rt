@@ -61,7 +61,7 @@ fn level_at(reg: &[Station], h: u16, x: Slot) -> u64
     level_by(reg[k], h, x)
 }
 
-// The lowest level of a slot's holders.
+// The lowest level of a slot's holders. Once it is not above the slot's bound, no further holder is looked at.
 pub fn slot_level(reg: &[Station], book: &[u16], x: Slot) -> u64
     requires { ⌜ (length (now reg) ≡ records) × ((length (now book) ≡ slotTimes) × ((x .from < slotTimes) × (x .times < 9))) ⌝ }
     ensures { λ r. ⌜ r ≡ slotLevel (now (reg .entry)) (now (book .entry)) x ⌝ }
