@@ -1,4 +1,4 @@
--- What the stages that are not lent the register come to, case by case.
+-- What the functions that are not lent the register come to, case by case.
 -- Assumes nothing.
 use mathlib.Core.Path.{_≡_, refl, _∙_}
 use mathlib.Core.Bool.{true, false}
@@ -40,6 +40,7 @@ use Rattle.calls.specs.declared.told.Task.{Task}
 use Rattle.calls.specs.declared.told.Task.the-variants as task
 use Rattle.calls.specs.declared.told.Case.{Case}
 use Rattle.calls.specs.declared.stages.Sums.{Sums}
+use Rattle.calls.specs.Told.{needsThem, replyTo}
 use Rattle.calls.specs.Stages.{FitTask, older, isHear, hearingBy, hearingOf, isChoose, noQuery, queryBy, queryOf, isNew, sumWith, Replans, reportedReply, Stays, restBy}
 use Rattle.calls.proofs.told.Task.{the-type}
 
@@ -77,6 +78,21 @@ not-new (task.Choose a) o = refl
 not-new (task.Report t) o = refl
 not-new task.New o = absurd (miss (0 ∷ 1 ∷ 2 ∷ 3 ∷ 4 ∷ 5 ∷ 6 ∷ 8 ∷ []) 7 tt o)
 not-new task.Sum o = refl
+
+-- the tags of all but a refusal and our own ship
+abbrev others : List ℕ
+others = 1 ∷ 2 ∷ 3 ∷ 5 ∷ 6 ∷ 7 ∷ 8 ∷ []
+
+pub by-others : (t : Task) → OneOf others (tagOf the-type t) → (needsThem t ≡ true) × ((w : Watch) → record { watch = w; answer = answer.Passed } ≡ replyTo t w)
+by-others (task.Refused r) e = absurd (miss others 0 tt e)
+by-others task.Nothing e = (refl, λ w. refl)
+by-others (task.Hear x) e = (refl, λ w. refl)
+by-others (task.Plan p) e = (refl, λ w. refl)
+by-others (task.Own s) e = absurd (miss others 4 tt e)
+by-others (task.Choose a) e = (refl, λ w. refl)
+by-others (task.Report t) e = (refl, λ w. refl)
+by-others task.New e = (refl, λ w. refl)
+by-others task.Sum e = (refl, λ w. refl)
 
 -- ---- a hold-off that ends
 

@@ -2,6 +2,5 @@ pub mod Data
 pub mod Running
 pub mod Covered
 pub mod Joining
-pub mod Telling
 pub mod Doing
 pub mod Promised

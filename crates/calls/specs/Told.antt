@@ -61,13 +61,16 @@ ownedTask (NotOwned r) = task.Refused r
 unfoldable pub ownTask : Ship → Task
 ownTask s = ownedTask (ownAnswer (s .source) (s .latitude) (s .longitude))
 
+-- what goes by the plan
+abbrev pub byPlan : Bool → Plan → Bool → Task → Task
+byPlan fits p good t =
+    ladder ((fits, task.Refused OtherLength) ∷ (planFits (p .rate) (p .start), task.Refused NoPlan) ∷ (good, task.Refused OutOfRange) ∷ []) t
+
 unfoldable pub chooseTask : Bool → Plan → Wanted → Task
-chooseTask fits p a =
-    ladder ((fits, task.Refused OtherLength) ∷ (planFits (p .rate) (p .start), task.Refused NoPlan) ∷ (askFits p a, task.Refused OutOfRange) ∷ []) (task.Choose a)
+chooseTask fits p a = byPlan fits p (askFits p a) (task.Choose a)
 
 unfoldable pub reportTask : Bool → Plan → Time → Task
-reportTask fits p t =
-    ladder ((fits, task.Refused OtherLength) ∷ (planFits (p .rate) (p .start), task.Refused NoPlan) ∷ (timeFits t, task.Refused OutOfRange) ∷ []) (task.Report t)
+reportTask fits p t = byPlan fits p (timeFits t) (task.Report t)
 
 abbrev pub taskOf : Bool → Watch → List ℕ → What → Task
 taskOf fits w bytes Nothing = fitTask fits task.Nothing

@@ -1,6 +1,9 @@
 // What a call comes to, as far as the lengths, the bytes and the watch tell: refused, or to be done. Promise: as specs/Told.antt says.
 ghost use mathlib.Core.Path.{_≡_};
-ghost use Rattle.calls.specs.Told.{fitting, heardTask, tellingTask, planTask, ownTask, chooseTask, reportTask, fitTask, taskOf, toldOf, isReady, aloneReply};
+ghost use Rattle.laws.specs.Tests.{pick};
+ghost use Rattle.choosing.specs.Choosing.{askFits};
+ghost use Rattle.calls.specs.declared.told.Task.the-variants.{Refused};
+ghost use Rattle.calls.specs.Told.{fitting, heardTask, tellingTask, planTask, ownTask, byPlan, taskOf, toldOf, isReady, aloneReply};
 use crate::Ask;
 use crate::What;
 use book::Watch;
@@ -48,26 +51,29 @@ pub struct Case {
 fn fitting(n: usize, m: usize) -> bool
     ensures { λ r. ⌜ r ≡ fitting n m ⌝ }
 {
-    if n != RECORDS {
+    if m != SLOT_TIMES {
         return false;
     }
-    m == SLOT_TIMES
+    n == RECORDS
+}
+
+// The task where a test holds, and else its refusal. Of several tests the one that is put last goes first.
+fn task_if(holds: bool, n: Refusal, task: Task) -> Task
+    ensures { λ r. ⌜ r ≡ pick holds task (Refused n) ⌝ }
+{
+    if !holds {
+        return Task::Refused(n);
+    }
+    task
 }
 
 // 20, 21, 22.
 fn telling_task(x: Telling, own: u32, fits: bool) -> Task
     ensures { λ r. ⌜ r ≡ tellingTask fits own x ⌝ }
 {
-    if !fits {
-        return Task::Refused(Refusal::OtherLength);
-    }
-    if !fair(x.source, own) {
-        return Task::Refused(Refusal::BadSource);
-    }
-    if x.repeat > 0 {
-        return Task::Refused(Refusal::Repeated);
-    }
-    Task::Hear(x)
+    let new = task_if(x.repeat == 0, Refusal::Repeated, Task::Hear(x));
+    let other = task_if(fair(x.source, own), Refusal::BadSource, new);
+    task_if(fits, Refusal::OtherLength, other)
 }
 
 // 17, 18 before all others.
@@ -88,13 +94,8 @@ fn heard_task(bytes: &[u8], own: u32, fits: bool) -> Task
 fn plan_task(p: Plan, fits: bool) -> Task
     ensures { λ r. ⌜ r ≡ planTask fits p ⌝ }
 {
-    if !fits {
-        return Task::Refused(Refusal::OtherLength);
-    }
-    if !p.good() {
-        return Task::Refused(Refusal::OutOfRange);
-    }
-    Task::Plan(p)
+    let good = task_if(p.good(), Refusal::OutOfRange, Task::Plan(p));
+    task_if(fits, Refusal::OtherLength, good)
 }
 
 // 21, 30, whatever the lengths.
@@ -108,52 +109,26 @@ fn own_task(s: Ship) -> Task
     }
 }
 
-// 20, 31, 30.
-fn choose_task(p: Plan, a: Wanted, fits: bool) -> Task
-    ensures { λ r. ⌜ r ≡ chooseTask fits p a ⌝ }
+// The plan has the window that is asked for, and the time-out is one.
+fn can_ask(p: Plan, a: Wanted) -> bool
+    ensures { λ r. ⌜ r ≡ askFits p a ⌝ }
 {
-    if !fits {
-        return Task::Refused(Refusal::OtherLength);
-    }
-    if !p.good() {
-        return Task::Refused(Refusal::NoPlan);
-    }
     if a.k >= p.rate {
-        return Task::Refused(Refusal::OutOfRange);
+        return false;
     }
     if a.timeout < LEAST_TIME_OUT {
-        return Task::Refused(Refusal::OutOfRange);
+        return false;
     }
-    if a.timeout > MOST_TIME_OUT {
-        return Task::Refused(Refusal::OutOfRange);
-    }
-    Task::Choose(a)
+    a.timeout <= MOST_TIME_OUT
 }
 
-// 20, 31, 30.
-fn report_task(p: Plan, t: Time, fits: bool) -> Task
-    ensures { λ r. ⌜ r ≡ reportTask fits p t ⌝ }
+// What goes by the plan: 20, 31, 30.
+fn by_plan(p: Plan, good: bool, task: Task, fits: bool) -> Task
+    ensures { λ r. ⌜ r ≡ byPlan fits p good task ⌝ }
 {
-    if !fits {
-        return Task::Refused(Refusal::OtherLength);
-    }
-    if !p.good() {
-        return Task::Refused(Refusal::NoPlan);
-    }
-    if !reporting::fits(t) {
-        return Task::Refused(Refusal::OutOfRange);
-    }
-    Task::Report(t)
-}
-
-// 20 alone.
-fn fit_task(task: Task, fits: bool) -> Task
-    ensures { λ r. ⌜ r ≡ fitTask fits task ⌝ }
-{
-    if !fits {
-        return Task::Refused(Refusal::OtherLength);
-    }
-    task
+    let asked = task_if(good, Refusal::OutOfRange, task);
+    let planned = task_if(p.good(), Refusal::NoPlan, asked);
+    task_if(fits, Refusal::OtherLength, planned)
 }
 
 fn task_of(bytes: &[u8], watch: Watch, what: What, fits: bool) -> Task
@@ -163,14 +138,14 @@ fn task_of(bytes: &[u8], watch: Watch, what: What, fits: bool) -> Task
     let channel = watch.channel;
     let plan = channel.plan;
     match what {
-        What::Nothing => fit_task(Task::Nothing, fits),
+        What::Nothing => task_if(fits, Refusal::OtherLength, Task::Nothing),
         What::Hear => heard_task(bytes, ship.source, fits),
         What::Plan(p) => plan_task(p, fits),
         What::Own(s) => own_task(s),
-        What::Choose(a) => choose_task(plan, a, fits),
-        What::Report(t) => report_task(plan, t, fits),
-        What::New => fit_task(Task::New, fits),
-        What::Sum => fit_task(Task::Sum, fits),
+        What::Choose(a) => by_plan(plan, can_ask(plan, a), Task::Choose(a), fits),
+        What::Report(t) => by_plan(plan, reporting::fits(t), Task::Report(t), fits),
+        What::New => task_if(fits, Refusal::OtherLength, Task::New),
+        What::Sum => task_if(fits, Refusal::OtherLength, Task::Sum),
     }
 }
 

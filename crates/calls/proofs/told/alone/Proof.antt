@@ -1,16 +1,17 @@
 use borrow.Author.Needs.{needs}
-use Rattle.calls.proofs.Telling.{alone-refused, alone-own, alone-other}
+use Rattle.calls.specs.Told.{aloneReply}
+use Rattle.calls.proofs.Covered.{by-others}
 use Rattle.calls.proofs.told.alone.Statement.{statement}
 use Rattle.calls.proofs.told.alone.Tie as tie
 
-returns : tie.Need-returns
-returns c = alone-refused (c .before .before .before .before .args .c) _ (c .before .task .given .1)
-
-returns-2 : tie.Need-returns-2
-returns-2 c = alone-own (c .before .before .before .before .before .args .c) _ _ (c .before .before .task2 .given .1) (c .with-ship .ensures)
-
-returns-3 : tie.Need-returns-3
-returns-3 c = alone-other (c .before .before .args .c) (c .match .keys3)
-
 pub alone-spec : {M : Type 1} → statement M
-alone-spec = tie.close (tie.spec (λ c. search needs) (λ c. search needs) (λ c κs. search needs) returns returns-2 returns-3)
+unfolding aloneReply
+alone-spec =
+    tie.close
+    (tie.spec
+    (λ c. search needs)
+    (λ c. search needs)
+    (λ c κs. search needs)
+    (λ c. rw (c .before .task .given .1))
+    (λ c. rw (c .with-ship .ensures, c .before .before .task2 .given .1))
+    (λ c. by-others (c .before .before .args .c .task) (c .match .keys3) .1 _))

@@ -1,20 +1,15 @@
+use mathlib.Core.Path.{refl}
 use borrow.Author.Needs.{needs}
-use Rattle.calls.proofs.Telling.{plan-20, plan-30, plan-on}
+use Rattle.book.proofs.Plans.{fits-is}
+use Rattle.calls.specs.Told.{planTask}
 use Rattle.calls.proofs.told.plan_task.Statement.{statement}
 use Rattle.calls.proofs.told.plan_task.Tie as tie
 
 returns : tie.Need-returns
-returns c = plan-20 _ _ (c .if1 .taken)
-
-returns-2 : tie.Need-returns-2
-returns-2 c =
-    let a = c .before .before .before .args in
-    plan-30 (a .fits) (a .p) (c .before .before .if1 .left) (c .before .good2 .result) (c .before .good2 .ensures) (c .if2 .taken)
-
-returns-3 : tie.Need-returns-3
-returns-3 c =
-    let a = c .before .before .before .args in
-    plan-on (a .fits) (a .p) (c .before .before .if1 .left) (c .before .good2 .result) (c .before .good2 .ensures) (c .if2 .left)
+unfolding planTask
+returns c =
+    let good = c .before .before in
+    rw (c .task-if2 .ensures, c .before .task-if .ensures, fits-is (good .before .args .p) _ _ refl refl (good .good2 .result) (good .good2 .ensures))
 
 pub plan-task-spec : {M : Type 1} → statement M
-plan-task-spec = tie.close (tie.spec returns (λ c κs. search needs) returns-2 returns-3)
+plan-task-spec = tie.close (tie.spec (λ c κs. search needs) (λ c κs. search needs) (λ c κs. search needs) returns)

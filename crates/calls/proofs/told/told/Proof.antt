@@ -1,22 +1,29 @@
+use mathlib.Core.Path.{sym, _∙_}
 use mathlib.Core.Logic.{⊎-elim}
+use native.Mathlib.Omega.{arith}
 use borrow.Author.Needs.{needs}
-use Rattle.calls.proofs.Telling.{told-none, told-here, told-sized}
+use borrow.Author.Tests.{eq-eqb, ne-eqb}
+use Rattle.laws.proofs.Tests.{was-false, was-true, either-true}
+use Rattle.calls.specs.Told.{toldOf}
 use Rattle.calls.proofs.told.told.Statement.{statement}
 use Rattle.calls.proofs.told.told.Tie as tie
 
 -- slots would pass, and the lengths are other ones
 returns : tie.Need-returns
+unfolding toldOf
 returns c =
-    let a = c .before .before .before .before .before .before .args in
-    told-none (a .n) (a .m) (a .bytes .now) (a .x) _ (c .before .before .before .fitting .ensures) (c .before .if1 .taken) (c .if2 .taken)
+    let here = c .before .before .before in
+    let some = c .before .if1 .taken in
+    rw (ne-eqb (here .before .before .before .args .x .passes) 0 (λ z. omega (arith, z, some)), sym (here .fitting .ensures) ∙ was-false (c .if2 .taken))
 
+-- the lengths are right, or none passes
 returns-2 : tie.Need-returns-2
+unfolding toldOf
 returns-2 c =
     let here = c .before .before .before in
-    let a = here .before .before .before .args in
     ⊎-elim
-    (λ w. told-sized (a .n) (a .m) (a .bytes .now) (a .x) _ (here .fitting .ensures) _ (c .task-of .ensures) (w .1 .left))
-    (λ w. told-here (a .n) (a .m) (a .bytes .now) (a .x) _ (here .fitting .ensures) _ (c .task-of .ensures) (w .left))
+    (λ w. rw (c .task-of .ensures, here .fitting .ensures, sym (here .fitting .ensures) ∙ was-true (w .1 .left), either-true _))
+    (λ w. let none = w .left in rw (c .task-of .ensures, here .fitting .ensures, eq-eqb (here .before .before .before .args .x .passes) 0 (omega (arith, none))))
     (c .before .if1 .came)
 
 pub told-spec : {M : Type 1} → statement M
