@@ -1,6 +1,6 @@
 -- What the functions that are not lent the register come to, case by case.
 -- Assumes nothing.
-use mathlib.Core.Path.{_≡_, refl, _∙_}
+use mathlib.Core.Path.{_≡_, refl}
 use mathlib.Core.Bool.{true, false}
 use mathlib.Core.List.{List, [], _∷_}
 use Prim.Native.Nat.{ℕ, _+_, _-_, _≤_, _<_}
@@ -20,7 +20,6 @@ use Rattle.ship.specs.declared.Station.{Station}
 use Rattle.plan.specs.declared.Plan.{Plan}
 use Rattle.plan.specs.Plan.{InRange}
 use Rattle.book.specs.declared.Watch.{Watch}
-use Rattle.book.specs.Planning.{planFits}
 use Rattle.book.proofs.Plans.{in-range}
 use Rattle.register.specs.declared.Reply.{Reply}
 use Rattle.register.specs.declared.Answer.the-variants as answer
@@ -40,7 +39,7 @@ use Rattle.calls.specs.declared.told.Task.{Task}
 use Rattle.calls.specs.declared.told.Task.the-variants as task
 use Rattle.calls.specs.declared.told.Case.{Case}
 use Rattle.calls.specs.declared.stages.Sums.{Sums}
-use Rattle.calls.specs.Told.{needsThem, replyTo}
+use Rattle.calls.specs.Told.{apart}
 use Rattle.calls.specs.Stages.{FitTask, older, isHear, hearingBy, hearingOf, isChoose, noQuery, queryBy, queryOf, isNew, sumWith, Replans, reportedReply, Stays, restBy}
 use Rattle.calls.proofs.told.Task.{the-type}
 
@@ -83,16 +82,16 @@ not-new task.Sum o = refl
 abbrev others : List ℕ
 others = 1 ∷ 2 ∷ 3 ∷ 5 ∷ 6 ∷ 7 ∷ 8 ∷ []
 
-pub by-others : (t : Task) → OneOf others (tagOf the-type t) → (needsThem t ≡ true) × ((w : Watch) → record { watch = w; answer = answer.Passed } ≡ replyTo t w)
-by-others (task.Refused r) e = absurd (miss others 0 tt e)
-by-others task.Nothing e = (refl, λ w. refl)
-by-others (task.Hear x) e = (refl, λ w. refl)
-by-others (task.Plan p) e = (refl, λ w. refl)
-by-others (task.Own s) e = absurd (miss others 4 tt e)
-by-others (task.Choose a) e = (refl, λ w. refl)
-by-others (task.Report t) e = (refl, λ w. refl)
-by-others task.New e = (refl, λ w. refl)
-by-others task.Sum e = (refl, λ w. refl)
+pub not-apart : {A : Type 0} (f : Refusal → A) (g : Ship → A) (x : A) (t : Task) → OneOf others (tagOf the-type t) → apart f g x t ≡ x
+not-apart f g x (task.Refused r) o = absurd (miss others 0 tt o)
+not-apart f g x task.Nothing o = refl
+not-apart f g x (task.Hear h) o = refl
+not-apart f g x (task.Plan p) o = refl
+not-apart f g x (task.Own s) o = absurd (miss others 4 tt o)
+not-apart f g x (task.Choose a) o = refl
+not-apart f g x (task.Report t) o = refl
+not-apart f g x task.New o = refl
+not-apart f g x task.Sum o = refl
 
 -- ---- a hold-off that ends
 
@@ -101,9 +100,6 @@ pub older-ends : (s : Station) (c : Case) → s .hold < c .passes
 older-ends s c l = let z : s .hold - c .passes ≡ 0 = omega arith in rw z
 
 -- ---- what is heard
-
-heard-by : (t : Task) (w : Watch) (x : Telling) → t ≡ task.Hear x → _≡_ {A = Hearing} (record { watch = w; telling = x }) (hearingBy t w)
-heard-by t w x e = rw e
 
 other-by : (t : Task) (w : Watch) → false ≡ isHear t → _≡_ {A = Hearing} (record { watch = w; telling = tellingOf Other }) (hearingBy t w)
 other-by (task.Refused r) w e = refl
@@ -119,7 +115,7 @@ other-by task.Sum w e = refl
 module _ (c : Case) (x : Telling) where
   pub heard-of : c .task ≡ task.Hear x → _≡_ {A = Hearing} (record { watch = c .watch; telling = x }) (hearingOf c)
   unfolding hearingOf
-  heard-of e = heard-by (c .task) (c .watch) x e
+  heard-of e = rw e
 
   pub other-of : x ≡ tellingOf Other → false ≡ isHear (c .task) → _≡_ {A = Hearing} (record { watch = c .watch; telling = x }) (hearingOf c)
   unfolding hearingOf
@@ -128,9 +124,6 @@ module _ (c : Case) (x : Telling) where
 -- ---- what is asked for
 
 -- the plan and the window of a choice that fits
-fit-choose : (t : Task) (p : Plan) (a : Wanted) → t ≡ task.Choose a → FitTask t p → (planFits (p .rate) (p .start) ≡ true) × (askFits p a ≡ true)
-fit-choose t p a e h = rw e at h
-
 pub window-there : (p : Plan) (a : Wanted) → askFits p a ≡ true → (a .k < p .rate) × (a .timeout < mostTimeOut + 1)
 unfolding askFits
 window-there p a e =
@@ -140,10 +133,7 @@ window-there p a e =
 
 pub fit-ask : (t : Task) (p : Plan) (a : Wanted) → t ≡ task.Choose a → FitTask t p
     → InRange p × ((a .k < p .rate) × (a .timeout < mostTimeOut + 1))
-fit-ask t p a e h = let f = fit-choose t p a e h in (in-range p (f .0), window-there p a (f .1))
-
-query-by : (t : Task) (book : List ℕ) (w : Watch) (a : Wanted) → t ≡ task.Choose a → asked book w a ≡ queryBy t book w
-query-by t book w a e = rw e
+fit-ask t p a e h = let f : FitTask (task.Choose a) p = rw e at h in (in-range p (f .0), window-there p a (f .1))
 
 none-by : (t : Task) (book : List ℕ) (w : Watch) → false ≡ isChoose t → noQuery w ≡ queryBy t book w
 none-by (task.Refused r) book w e = refl
@@ -159,7 +149,7 @@ none-by task.Sum book w e = refl
 module _ (book : List ℕ) (c : Case) where
   pub query-one : (q : Query) (a : Wanted) → q ≡ asked book (c .watch) a → c .task ≡ task.Choose a → q ≡ queryOf book c
   unfolding queryOf
-  query-one q a f e = f ∙ query-by (c .task) book (c .watch) a e
+  query-one q a f e = rw e f
 
   pub query-none : false ≡ isChoose (c .task) → noQuery (c .watch) ≡ queryOf book c
   unfolding queryOf

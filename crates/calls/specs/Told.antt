@@ -6,6 +6,7 @@ use mathlib.Core.List.{List, [], _∷_}
 use lib.Dec.{eqb, ltb}
 use Rattle.laws.specs.Tests.{pick, both, either, ladder}
 use Rattle.limits.specs.Limits.{slotTimes, records}
+use Rattle.numbers.specs.declared.Refusal.{Refusal}
 use Rattle.numbers.specs.declared.Refusal.the-variants.{OtherLength, BadSource, Repeated, OutOfRange, NoPlan}
 use Rattle.message.specs.declared.Received.{Received}
 use Rattle.message.specs.declared.Received.the-variants.{Message as Got, Refused as NotRead}
@@ -89,31 +90,29 @@ toldOf n m bytes x =
     (record { watch = x .watch; passes = x .passes; task = taskOf (fitting n m) (x .watch) bytes (x .what) })
     (record { watch = x .watch; passes = 0; task = task.Refused OtherLength })
 
+-- a refusal, our own ship, or anything else
+abbrev pub apart : {A : Type 0} → (Refusal → A) → (Ship → A) → A → Task → A
+apart f g x (task.Refused r) = f r
+apart f g x task.Nothing = x
+apart f g x (task.Hear h) = x
+apart f g x (task.Plan p) = x
+apart f g x (task.Own s) = g s
+apart f g x (task.Choose a) = x
+apart f g x (task.Report t) = x
+apart f g x task.New = x
+apart f g x task.Sum = x
+
 -- register and book are needed
 abbrev pub needsThem : Task → Bool
-needsThem (task.Refused r) = false
-needsThem task.Nothing = true
-needsThem (task.Hear x) = true
-needsThem (task.Plan p) = true
-needsThem (task.Own s) = false
-needsThem (task.Choose a) = true
-needsThem (task.Report t) = true
-needsThem task.New = true
-needsThem task.Sum = true
+needsThem = apart (λ r. false) (λ s. false) true
 
 unfoldable pub isReady : Case → Bool
 isReady c = either (ltb 0 (c .passes)) (needsThem (c .task))
 
 abbrev pub replyTo : Task → Watch → Reply
-replyTo (task.Refused r) w = record { watch = w; answer = Refused r }
-replyTo task.Nothing w = record { watch = w; answer = Passed }
-replyTo (task.Hear x) w = record { watch = w; answer = Passed }
-replyTo (task.Plan p) w = record { watch = w; answer = Passed }
-replyTo (task.Own s) w = record { watch = record { present = w .present; channel = w .channel; ship = s }; answer = Set }
-replyTo (task.Choose a) w = record { watch = w; answer = Passed }
-replyTo (task.Report t) w = record { watch = w; answer = Passed }
-replyTo task.New w = record { watch = w; answer = Passed }
-replyTo task.Sum w = record { watch = w; answer = Passed }
+replyTo t w =
+    apart (λ r. record { watch = w; answer = Refused r }) (λ s. record { watch = record { present = w .present; channel = w .channel; ship = s }; answer = Set })
+    (record { watch = w; answer = Passed }) t
 
 unfoldable pub aloneReply : Case → Reply
 aloneReply c = replyTo (c .task) (c .watch)

@@ -5,17 +5,12 @@ use Rattle.calls.proofs.told.own_task.Statement.{statement}
 use Rattle.calls.proofs.told.own_task.Tie as tie
 
 -- a signed number goes to the call as a word, and comes back as it was
-returns : tie.Need-returns
-unfolding ownTask
-returns c =
-    let s = c .before .before .before .before .before .before .args .s in
-    rw (← back (s .latitude) (search needs), ← back (s .longitude) (search needs), ← c .before .before .before .own .ensures, c .before .owned .given .1)
-
-returns-2 : tie.Need-returns-2
-unfolding ownTask
-returns-2 c =
-    let s = c .before .before .before .before .before .before .args .s in
-    rw (← back (s .latitude) (search needs), ← back (s .longitude) (search needs), ← c .before .before .before .own .ensures, c .before .owned2 .given .1)
-
 pub own-task-spec : {M : Type 1} → statement M
-own-task-spec = tie.close (tie.spec (λ c κs. search needs) (λ c. search needs) (λ c. search needs) returns returns-2)
+unfolding ownTask
+own-task-spec =
+    tie.close
+    (tie.spec (λ c κs. search needs) (λ c. search needs) (λ c. search needs)
+    (λ c. let s = c .before .before .before .before .before .before .args .s in
+    rw (← back (s .latitude) (search needs), ← back (s .longitude) (search needs), ← c .before .before .before .own .ensures, c .before .owned .given .1))
+    (λ c. let s = c .before .before .before .before .before .before .args .s in
+    rw (← back (s .latitude) (search needs), ← back (s .longitude) (search needs), ← c .before .before .before .own .ensures, c .before .owned2 .given .1)))

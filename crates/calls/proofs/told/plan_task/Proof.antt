@@ -5,11 +5,10 @@ use Rattle.calls.specs.Told.{planTask}
 use Rattle.calls.proofs.told.plan_task.Statement.{statement}
 use Rattle.calls.proofs.told.plan_task.Tie as tie
 
-returns : tie.Need-returns
-unfolding planTask
-returns c =
-    let good = c .before .before in
-    rw (c .task-if2 .ensures, c .before .task-if .ensures, fits-is (good .before .args .p) _ _ refl refl (good .good2 .result) (good .good2 .ensures))
-
 pub plan-task-spec : {M : Type 1} → statement M
-plan-task-spec = tie.close (tie.spec (λ c κs. search needs) (λ c κs. search needs) (λ c κs. search needs) returns)
+unfolding planTask
+plan-task-spec =
+    tie.close
+    (tie.spec (λ c κs. search needs) (λ c κs. search needs) (λ c κs. search needs)
+    (λ c. let good = c .before .before .good2 in
+    rw (c .task-if2 .ensures, c .before .task-if .ensures, fits-is _ _ _ refl refl (good .result) (good .ensures))))
