@@ -8,15 +8,14 @@ use native.Mathlib.Nat.{add-zero, add-suc}
 use native.Mathlib.Omega.{arith}
 use borrow.Author.Tests.{ne-eqb}
 use lib.Dec.{eqb}
-use Rattle.laws.specs.Tests.{pick, either, ladder}
+use Rattle.laws.specs.Tests.{either, ladder}
 use Rattle.laws.specs.Loops.{upto}
-use Rattle.laws.proofs.Tests.{never}
+use Rattle.laws.proofs.Tests.{by-test, either-true}
 use Rattle.laws.proofs.Ladder.{by-tests}
 use Rattle.limits.specs.Limits.{slotTimes, records}
 use Rattle.numbers.specs.declared.Refusal.{Refusal}
-use Rattle.numbers.specs.declared.Refusal.the-variants.{OtherLength, NotOwn}
-use Rattle.register.specs.declared.Answer.{Answer}
-use Rattle.register.specs.declared.Answer.the-variants.{Passed, Heard, Planned, Set, Chosen, Report as Reported, Refused, Begun, Sum as Summed}
+use Rattle.numbers.specs.declared.Refusal.the-variants.{NotOwn}
+use Rattle.register.specs.declared.Answer.the-variants.{Passed, Planned, Set, Refused, Begun}
 use Rattle.register.specs.State.{State, newState, passed, passes}
 use Rattle.register.specs.Answers.{Answered, answered, no, sized, givenNumber}
 use Rattle.reporting.specs.Report.{ownAt}
@@ -29,19 +28,7 @@ use Rattle.calls.specs.declared.told.Task.the-variants as task
 use Rattle.calls.specs.Calls.{passTests, pass, planned, planTests, plan, owning, ownTests, own, reportTests, reports, report, begin, sum, done, called}
 use Rattle.calls.specs.Told.{taskOf}
 use Rattle.calls.specs.Stages.{doneTask}
-use Rattle.calls.specs.Promises.{
-  PassExactly,
-  PlanExactly,
-  OwnExactly,
-  ReportExactly,
-  BeginExactly,
-  SumExactly,
-  OneAnswer,
-  RefusedKeepsAll,
-  RefusedStillPasses,
-  PassesApart,
-  LengthsFirst,
-}
+use Rattle.calls.specs.Promises.{PassExactly, PlanExactly, OwnExactly, ReportExactly, BeginExactly, SumExactly, OneAnswer, RefusedKeepsAll, RefusedStillPasses, PassesApart, LengthsFirst}
 use Rattle.calls.proofs.Doing.{done-is, passes-keep, sized-alike}
 
 -- ---- exactly when
@@ -77,20 +64,9 @@ one-answer x bytes reg book r s reg₁ reg₂ book₁ book₂ a b = (a .answers 
 
 -- ---- a refusal
 
-abbrev isRefusal : Answer → Bool
-isRefusal Passed = false
-isRefusal (Heard m) = false
-isRefusal Planned = false
-isRefusal Set = false
-isRefusal (Chosen c) = false
-isRefusal (Reported m) = false
-isRefusal (Refused r) = true
-isRefusal Begun = false
-isRefusal (Summed n) = false
-
 -- where it is a refusal, the state is s
 abbrev Kept : State → Answered → Type 0
-Kept s a = isRefusal (a .answer) ≡ true → a .state ≡ s
+Kept s a = (n : Refusal) → a .answer ≡ Refused n → a .state ≡ s
 
 -- what is given where a test does not hold has the state s
 abbrev Leaves : State → List (Bool × Answered) → Type 0
@@ -98,28 +74,25 @@ Leaves s [] = Unit {0}
 Leaves s (t ∷ ts) = (t .1 .state ≡ s) × Leaves s ts
 
 kept-ladder : (s : State) (ts : List (Bool × Answered)) (x : Answered) → Leaves s ts → Kept s x → Kept s (ladder ts x)
-kept-ladder s [] x l k e = k e
-kept-ladder s ((true, y) ∷ ts) x l k e = kept-ladder s ts x (l .1) k e
-kept-ladder s ((false, y) ∷ ts) x l k e = l .0
+kept-ladder s [] x l k = k
+kept-ladder s ((true, y) ∷ ts) x l k = kept-ladder s ts x (l .1) k
+kept-ladder s ((false, y) ∷ ts) x l k = λ n e. l .0
 
 -- what is left to be done, where it is refused
 kept-task : (t : Task) (s : State) → Kept s (doneTask t s)
 unfolding doneTask
-kept-task (task.Refused r) s e = refl
-kept-task task.Nothing s e = refl
-kept-task (task.Hear x) s e = kept-ladder s (bookTests s x) (hears s x) (refl, (refl, tt)) (λ z. never z) e
-kept-task (task.Plan p) s e = never e
-kept-task (task.Own o) s e = never e
-kept-task (task.Choose a) s e = kept-ladder s (drawTests s a) (chooses s a) (refl, (refl, (refl, (refl, tt)))) (λ z. never z) e
-kept-task (task.Report t) s e = kept-ladder s ((ownAt (s .book) (s .watch .present) 0, no s NotOwn) ∷ []) (reports s t) (refl, tt) (λ z. refl) e
-kept-task task.New s e = never e
-kept-task task.Sum s e = refl
+kept-task (task.Refused r) s n e = refl
+kept-task task.Nothing s n e = refl
+kept-task (task.Hear x) s n e = kept-ladder s (bookTests s x) (hears s x) (refl, (refl, tt)) (λ n z. cc) n e
+kept-task (task.Plan p) s n e = cc
+kept-task (task.Own o) s n e = cc
+kept-task (task.Choose a) s n e = kept-ladder s (drawTests s a) (chooses s a) (refl, (refl, (refl, (refl, tt)))) (λ n z. cc) n e
+kept-task (task.Report t) s n e = kept-ladder s ((ownAt (s .book) (s .watch .present) 0, no s NotOwn) ∷ []) (reports s t) (refl, tt) (λ n z. refl) n e
+kept-task task.New s n e = cc
+kept-task task.Sum s n e = refl
 
-kept : (s : State) (bytes : List ℕ) (q : What) (n : Refusal) → done q s bytes .answer ≡ Refused n → done q s bytes .state ≡ s
-kept s bytes q n e =
-    let is = done-is q s bytes in
-    let t = taskOf (sized s) (s .watch) bytes q in
-    ap (λ (a : Answered). a .state) is ∙ kept-task t s (ap (λ (a : Answered). isRefusal (a .answer)) (sym is) ∙ ap isRefusal e)
+kept : (s : State) (bytes : List ℕ) (q : What) → Kept s (done q s bytes)
+kept s bytes q = rw (done-is q s bytes) (kept-task (taskOf (sized s) (s .watch) bytes q) s)
 
 pub refused-keeps : RefusedKeepsAll
 unfolding called upto
@@ -128,20 +101,12 @@ refused-keeps s bytes q n e = kept s bytes q n e
 -- slots that pass leave the state that they leave, be the lengths what they are
 pass-state : (s : State) → pass s .state ≡ s
 unfolding pass
-pass-state s = by (sized s)
-  where
-    by : (b : Bool) → ladder ((b, no s OtherLength) ∷ []) (answered Passed s) .state ≡ s
-    by true = refl
-    by false = refl
+pass-state s = by-test (sized s) (λ e. rw e) (λ e. rw e)
 
 pub refused-passes : RefusedStillPasses
 unfolding called
-refused-passes s k bytes q n = by (either (eqb k 0) (sized s))
-  where
-    by : (b : Bool) → pick b (done q (passes s k) bytes) (no s OtherLength) .answer ≡ Refused n
-        → pick b (done q (passes s k) bytes) (no s OtherLength) .state ≡ pick b (pass (passes s k)) (no s OtherLength) .state
-    by true e = kept (passes s k) bytes q n e ∙ sym (pass-state (passes s k))
-    by false e = refl
+refused-passes s k bytes q n =
+    by-test (either (eqb k 0) (sized s)) (λ t. rw t (λ e. kept (passes s k) bytes q n e ∙ sym (pass-state (passes s k)))) (λ t. rw t (λ e. refl))
 
 -- ---- slots that pass first
 
@@ -153,11 +118,7 @@ passes-add s j (suc k) = ap (passes s) (add-suc j k) ∙ ap passed (passes-add s
 -- with its lengths a call is what it does once the slots have passed
 called-sized : (s : State) (n : ℕ) (bytes : List ℕ) (q : What) → sized s ≡ true → called s n bytes q ≡ done q (passes s n) bytes
 unfolding called
-called-sized s n bytes q e = ap (λ (b : Bool). pick (either (eqb n 0) b) (done q (passes s n) bytes) (no s OtherLength)) e ∙ by (eqb n 0)
-  where
-    by : (b : Bool) → pick (either b true) (done q (passes s n) bytes) (no s OtherLength) ≡ done q (passes s n) bytes
-    by true = refl
-    by false = refl
+called-sized s n bytes q e = rw (e, either-true (eqb n 0))
 
 pub passes-apart : PassesApart
 passes-apart s j k bytes q e =
