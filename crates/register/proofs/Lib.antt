@@ -1,4 +1,3 @@
-pub mod Followed
 pub mod Data
 pub mod Settling
 pub mod Passing

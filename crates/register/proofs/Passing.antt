@@ -1,8 +1,8 @@
 -- Slots that pass: n slots, and then the hold-offs n less, are n times one slot.
 --     slid-is      one slot, as the code does it.        passes-slid      n of them
 -- Assumes nothing.
-use mathlib.Core.Path.{_≡_, refl, ap, ap₂, _∙_}
-use mathlib.Core.List.{List, [], _∷_, map}
+use mathlib.Core.Path.{_≡_, refl, sym, ap, _∙_}
+use mathlib.Core.List.{List, [], _∷_, map, map-map, map-id, map-congr-left}
 use Prim.Native.Nat.{ℕ, zero, suc, _+_, _-_, _%_}
 use native.Mathlib.Omega.{arith}
 use lib.ListN.{length}
@@ -33,10 +33,6 @@ slid-is s t book′ many puts nobody =
 
 -- ---- hold-offs that fall first or last
 
-map-map : {A B C : Type 0} (f : B → C) (g : A → B) (l : List A) → map f (map g l) ≡ map (λ (x : A). f (g x)) l
-map-map f g [] = refl
-map-map {A} {B} {C} f g (x ∷ l) = ap (λ (r : List C). f (g x) ∷ r) (map-map f g l)
-
 older : ℕ → Station → Station
 older n r = withHold r (r .hold - n)
 
@@ -58,13 +54,8 @@ aged-more : (n : ℕ) (s : State) → aged 1 (aged n s) ≡ aged (suc n) s
 unfolding older
 aged-more n s =
     ap (λ (l : List Station). stateOf l (s .book) (s .watch))
-    (map-map (older 1) (older n) (s .reg) ∙ alike (s .reg))
-  where
-    alike : (l : List Station) → map (λ (r : Station). older 1 (older n r)) l ≡ map (older (suc n)) l
-    alike [] = refl
-    alike (r ∷ l) =
-        let less : r .hold - n - 1 ≡ r .hold - suc n = omega arith in
-        ap₂ (λ (x : Station) (k : List Station). x ∷ k) (ap (withHold r) less) (alike l)
+    (map-map (older 1) (older n) (s .reg)
+    ∙ map-congr-left {l = s .reg} (λ r m. let less : r .hold - n - 1 ≡ r .hold - suc n = omega arith in ap (withHold r) less))
 
 passed-aged : (n : ℕ) (s : State) → passed (aged n s) ≡ aged (suc n) (slidOne s)
 unfolding passed slidOne
@@ -76,13 +67,9 @@ passed-aged n s =
 
 aged-none : (s : State) → s ≡ aged 0 s
 unfolding older
-aged-none s = ap (λ (l : List Station). stateOf l (s .book) (s .watch)) (alike (s .reg))
-  where
-    alike : (l : List Station) → l ≡ map (older 0) l
-    alike [] = refl
-    alike (r ∷ l) =
-        let same : r .hold ≡ r .hold - 0 = omega arith in
-        ap₂ (λ (x : Station) (k : List Station). x ∷ k) (ap (withHold r) same) (alike l)
+aged-none s =
+    ap (λ (l : List Station). stateOf l (s .book) (s .watch))
+    (sym (map-congr-left {f = older 0} {l = s .reg} (λ r m. let same : r .hold - 0 ≡ r .hold = omega arith in ap (withHold r) same) ∙ map-id (s .reg)))
 
 pub passes-slid : (s : State) (n : ℕ) → passes s n ≡ aged n (slid s n)
 unfolding upto

@@ -4,14 +4,14 @@
 --     bookIn-settle    the book that is written back is the book of the state
 -- Assumes nothing.
 use mathlib.Core.Path.{_≡_, refl, sym, ap, ap₂, _∙_}
-use mathlib.Core.Bool.{Bool, true, false}
+use mathlib.Core.Bool.{true, false}
 use mathlib.Core.List.{List, [], _∷_, map}
-use Prim.Native.Nat.{ℕ, zero, suc, _-_, _<_}
+use Prim.Native.Nat.{ℕ, zero, suc, _-_}
 use native.Mathlib.Omega.{arith}
-use borrow.Author.Tests.{ne-eqb}
-use lib.ListN.{length, getD, set, length-map, length-set}
+use borrow.Author.Tests.{eq-eqb, ne-eqb}
+use lib.ListN.{length, getD, set, length-map, length-set, List·getD-map}
 use lib.Seq.{map-set-same, set-getD}
-use Rattle.laws.specs.Tests.{pick}
+use Rattle.laws.proofs.Tests.{by-test}
 use Rattle.limits.specs.Limits.{records, holdOff}
 use Rattle.ship.specs.declared.Station.{Station}
 use Rattle.ship.specs.Ship.{blank}
@@ -22,8 +22,7 @@ use Rattle.book.proofs.Once.{tallies-back, counts-back, parts-make}
 use Rattle.register.specs.declared.Turn.{Turn}
 use Rattle.register.specs.State.{State, stateOf, talliesIn, bookIn, withTally, withHold, withCounts, tallied, settle, heldOff}
 use Rattle.register.specs.Register.{lessBy, moreBy, lostIn, wonIn}
-use Rattle.book.proofs.Holders.{its-record, inside}
-use Rattle.register.proofs.Followed.{less-none, less-held, more-none}
+use Rattle.book.proofs.Holders.{its-record}
 
 -- ---- lists
 
@@ -32,24 +31,19 @@ map-set f [] i y = refl
 map-set f (x ∷ l) zero y = refl
 map-set {A} {B} f (x ∷ l) (suc i) y = ap (λ (r : List B). f x ∷ r) (map-set f l i y)
 
-pub map-at : {A B : Type 0} (f : A → B) (l : List A) (i : ℕ) (d : A) (e : B) → i < length l → getD (map f l) i e ≡ f (getD l i d)
-map-at f [] i d e p = absurd (omega arith)
-map-at f (x ∷ l) zero d e p = refl
-map-at f (x ∷ l) (suc i) d e p = map-at f l i d e (omega arith)
-
 -- ---- one record
 
 -- the record at its place changed so that its tally is g of it
-set-tallies : (g : ℕ → ℕ) (reg : List Station) (k : ℕ) (r : Station) → k < length reg → r .tally ≡ g (getD reg k blank .tally)
+set-tallies : (g : ℕ → ℕ) (reg : List Station) (k : ℕ) (r : Station) → r .tally ≡ g (getD reg k blank .tally)
     → talliesIn (set reg k r) ≡ set (talliesIn reg) k (g (getD (talliesIn reg) k 0))
-set-tallies g reg k r l e =
-    map-set (λ (x : Station). x .tally) reg k r ∙ ap (set (talliesIn reg) k) (e ∙ ap g (sym (map-at (λ (x : Station). x .tally) reg k blank 0 l)))
+set-tallies g reg k r e =
+    map-set (λ (x : Station). x .tally) reg k r ∙ ap (set (talliesIn reg) k) (e ∙ ap g (sym (List·getD-map (λ (x : Station). x .tally) reg k blank)))
 
 -- all but the tallies
 abbrev pub bare : List Station → List Station
 bare reg = map (λ (r : Station). withTally r 0) reg
 
-module _ (reg : List Station) (t : Turn) (many : length reg ≡ records) where
+module _ (reg : List Station) (t : Turn) where
   abbrev old : ℕ
   old = t .handing .old
 
@@ -60,93 +54,66 @@ module _ (reg : List Station) (t : Turn) (many : length reg ≡ records) where
   abbrev at : ℕ → Station
   at h = getD reg (recordAt h) blank
 
-  less-tally : isRecord old ≡ true → lessBy (at old) t .tally ≡ lowered (at old .tally)
-  unfolding lessBy
-  less-tally e = rw e
-
-  more-tally : isRecord new ≡ true → moreBy (at new) t .tally ≡ raised (at new .tally)
-  unfolding moreBy
-  more-tally e = rw e
-
   -- the holder h has got the record r: g of its tally where it has a record, and nothing else
   follow-tallies : (g : ℕ → ℕ) (h : ℕ) (r : Station) → (isRecord h ≡ true → r .tally ≡ g (at h .tally)) → (isRecord h ≡ false → at h ≡ r)
       → talliesIn (set reg (recordAt h) r) ≡ talliesBy g (talliesIn reg) h
   unfolding talliesBy
-  follow-tallies g h r is none = go (isRecord h) refl
-    where
-      go : (b : Bool) → isRecord h ≡ b → talliesIn (set reg (recordAt h) r) ≡ pick (isRecord h) (set (talliesIn reg) (h - 1) (g (getD (talliesIn reg) (h - 1) 0))) (talliesIn reg)
-      go true e =
-          rw e (set-tallies g reg (recordAt h) r (omega (arith, inside h)) (is e) ∙ ap (λ (k : ℕ). set (talliesIn reg) k (g (getD (talliesIn reg) k 0))) (its-record h e))
-      go false e = rw e (ap talliesIn (ap (set reg (recordAt h)) (sym (none e)) ∙ set-getD reg (recordAt h) blank))
+  follow-tallies g h r is none =
+      by-test (isRecord h)
+      (λ e. rw e (set-tallies g reg (recordAt h) r (is e) ∙ ap (λ (k : ℕ). set (talliesIn reg) k (g (getD (talliesIn reg) k 0))) (its-record h e)))
+      (λ e. rw e (ap talliesIn (ap (set reg (recordAt h)) (sym (none e)) ∙ set-getD reg (recordAt h) blank)))
 
-  pub lost-tallies : talliesIn (lostIn reg t) ≡ talliesBy lowered (talliesIn reg) old
-  lost-tallies = follow-tallies lowered old (lessBy (at old) t) less-tally (less-none (at old) t)
+  lost-tallies : talliesIn (lostIn reg t) ≡ talliesBy lowered (talliesIn reg) old
+  unfolding lessBy
+  lost-tallies = follow-tallies lowered old (lessBy (at old) t) (λ e. rw e) (λ e. rw e)
 
-  pub won-tallies : talliesIn (wonIn reg t) ≡ talliesBy raised (talliesIn reg) new
-  won-tallies = follow-tallies raised new (moreBy (at new) t) more-tally (more-none (at new) t)
+  won-tallies : talliesIn (wonIn reg t) ≡ talliesBy raised (talliesIn reg) new
+  unfolding moreBy
+  won-tallies = follow-tallies raised new (moreBy (at new) t) (λ e. rw e) (λ e. rw e)
 
   -- but for its tally the winner is as it was, and the loser too where the slot time did not become ours
-  more-bare : withTally (moreBy (at new) t) 0 ≡ withTally (at new) 0
+  won-bare : bare (wonIn reg t) ≡ bare reg
   unfolding moreBy
-  more-bare = go (isRecord new)
-    where
-      go : (b : Bool) → withTally (pick b (withTally (at new) (raised (at new .tally))) (at new)) 0 ≡ withTally (at new) 0
-      go true = refl
-      go false = refl
+  won-bare =
+      map-set-same (λ (r : Station). withTally r 0) reg (recordAt new) (moreBy (at new) t) blank (by-test (isRecord new) (λ e. rw e) (λ e. rw e))
 
-  pub won-bare : bare (wonIn reg t) ≡ bare reg
-  won-bare = map-set-same (λ (r : Station). withTally r 0) reg (recordAt new) (moreBy (at new) t) blank more-bare
-
-  less-bare : (new ≡ ours → ⊥) → withTally (lessBy (at old) t) 0 ≡ withTally (at old) 0
+  lost-bare : (new ≡ ours → ⊥) → bare (lostIn reg t) ≡ bare reg
   unfolding lessBy
-  less-bare n = rw (ne-eqb new ours n) (go (isRecord old))
-    where
-      go : (b : Bool) → withTally (pick b (withTally (at old) (lowered (at old .tally))) (at old)) 0 ≡ withTally (at old) 0
-      go true = refl
-      go false = refl
-
-  pub lost-bare : (new ≡ ours → ⊥) → bare (lostIn reg t) ≡ bare reg
-  lost-bare n = map-set-same (λ (r : Station). withTally r 0) reg (recordAt old) (lessBy (at old) t) blank (less-bare n)
+  lost-bare n =
+      map-set-same (λ (r : Station). withTally r 0) reg (recordAt old) (lessBy (at old) t) blank
+      (by-test (isRecord old) (λ e. rw (e, ne-eqb new ours n)) (λ e. rw e))
 
   -- where it became ours the loser is held off
-  pub lost-held : new ≡ ours → bare (lostIn reg t) ≡ bare (heldOff old reg)
-  unfolding heldOff
-  lost-held o = go (isRecord old) refl
-    where
-      go : (b : Bool) → isRecord old ≡ b → bare (lostIn reg t) ≡ bare (pick (isRecord old) (set reg (old - 1) (withHold (getD reg (old - 1) blank) holdOff)) reg)
-      go true e =
-          rw e (ap (λ (r : Station). bare (set reg (recordAt old) r)) (sym (less-held (at old) t (lowered (at old .tally)) e o refl))
-          ∙ map-set (λ (r : Station). withTally r 0) reg (recordAt old) (withHold (withTally (at old) (lowered (at old .tally))) holdOff)
-          ∙ sym (map-set (λ (r : Station). withTally r 0) reg (recordAt old) (withHold (at old) holdOff))
-          ∙ ap (λ (k : ℕ). bare (set reg k (withHold (getD reg k blank) holdOff))) (its-record old e))
-      go false e = rw e (ap bare (ap (set reg (recordAt old)) (sym (less-none (at old) t e)) ∙ set-getD reg (recordAt old) blank))
+  lost-held : new ≡ ours → bare (lostIn reg t) ≡ bare (heldOff old reg)
+  unfolding heldOff lessBy
+  lost-held o =
+      by-test (isRecord old)
+      (λ e. rw (e, eq-eqb new ours o) (map-set (λ (r : Station). withTally r 0) reg (recordAt old) (withHold (withTally (at old) (lowered (at old .tally))) holdOff)
+      ∙ sym (map-set (λ (r : Station). withTally r 0) reg (recordAt old) (withHold (at old) holdOff))
+      ∙ ap (λ (k : ℕ). bare (set reg k (withHold (getD reg k blank) holdOff))) (its-record old e)))
+      (λ e. rw e (ap bare (set-getD reg (recordAt old) blank)))
 
 -- both, one after the other
 abbrev pub both-followed : List Station → Turn → List Station
 both-followed reg t = wonIn (lostIn reg t) t
 
 module _ (reg : List Station) (t : Turn) (many : length reg ≡ records) where
-  lost-many : length (lostIn reg t) ≡ records
-  lost-many = length-set reg _ _ ∙ many
-
   pub followed-many : length (both-followed reg t) ≡ records
-  followed-many = length-set (lostIn reg t) _ _ ∙ lost-many
-
-  pub followed-tallies : talliesIn (both-followed reg t) ≡ talliesBy raised (talliesBy lowered (talliesIn reg) (t .handing .old)) (t .handing .new)
-  followed-tallies =
-      won-tallies (lostIn reg t) t lost-many ∙ ap (λ (ts : List ℕ). talliesBy raised ts (t .handing .new)) (lost-tallies reg t many)
+  followed-many = length-set (lostIn reg t) _ _ ∙ length-set reg _ _ ∙ many
 
   pub followed-bare : (t .handing .new ≡ ours → ⊥) → bare (both-followed reg t) ≡ bare reg
-  followed-bare n = won-bare (lostIn reg t) t lost-many ∙ lost-bare reg t many n
+  followed-bare n = won-bare (lostIn reg t) t ∙ lost-bare reg t n
 
   pub followed-held : t .handing .new ≡ ours → bare (both-followed reg t) ≡ bare (heldOff (t .handing .old) reg)
-  followed-held o = won-bare (lostIn reg t) t lost-many ∙ lost-held reg t many o
+  followed-held o = won-bare (lostIn reg t) t ∙ lost-held reg t o
 
   -- the book once the records have followed
   pub follows : (f : Book → Book) (s s′ : List ℕ) (c : Counts) → Puts f s c (t .handing) s′
       → bookOf s′ (talliesIn (both-followed reg t)) (t .handing .counts) ≡ f (bookOf s (talliesIn reg) c)
   follows f s s′ c p =
-      ap (λ (ts : List ℕ). bookOf s′ ts (t .handing .counts)) followed-tallies ∙ p (talliesIn reg) (length-map reg (λ (r : Station). r .tally) ∙ many)
+      ap (λ (ts : List ℕ). bookOf s′ ts (t .handing .counts))
+      (won-tallies (lostIn reg t) t ∙ ap (λ (ts : List ℕ). talliesBy raised ts (t .handing .new)) (lost-tallies reg t))
+      ∙ p (talliesIn reg) (length-map reg (λ (r : Station). r .tally) ∙ many)
 
 -- ---- a book that is written back
 
@@ -156,22 +123,22 @@ tallied-bare [] [] e = refl
 tallied-bare [] (x ∷ reg′) e = absurd (omega (arith, ap length e))
 tallied-bare (r ∷ reg) [] e = absurd (omega (arith, ap length e))
 tallied-bare (r ∷ reg) (x ∷ reg′) e =
-    let here : withTally x 0 ≡ withTally r 0 = ap (λ (l : List Station). getD l 0 blank) e in
-    let rest : bare reg′ ≡ bare reg = ap (λ (l : List Station). tail l) e in
+    let here : withTally x 0 ≡ withTally r 0 = cc in
+    let rest : bare reg′ ≡ bare reg = cc in
     ap₂ (λ (y : Station) (l : List Station). y ∷ l) (ap (λ (y : Station). withTally y (x .tally)) (sym here)) (tallied-bare reg reg′ rest)
-  where
-    tail : List Station → List Station
-    tail [] = []
-    tail (y ∷ l) = l
+
+-- the book b with these slots, counts and tallies, written back
+pub settle-parts : (s : State) (b : Book) (reg′ : List Station) (book′ : List ℕ) (c′ : Counts) → length reg′ ≡ records
+    → bookOf book′ (talliesIn reg′) c′ ≡ b → settle b s ≡ stateOf (tallied (s .reg) (talliesIn reg′)) book′ (withCounts (s .watch) c′)
+unfolding settle
+settle-parts s b reg′ book′ c′ many is =
+    let size : length (talliesIn reg′) ≡ records = length-map reg′ (λ (r : Station). r .tally) ∙ many in
+    rw (← is, tallies-back book′ (talliesIn reg′) c′ size, counts-back book′ (talliesIn reg′) c′ size)
 
 pub settle-is : (s : State) (b : Book) (reg′ : List Station) (book′ : List ℕ) (c′ : Counts) → length reg′ ≡ records → bare reg′ ≡ bare (s .reg)
     → bookOf book′ (talliesIn reg′) c′ ≡ b → settle b s ≡ stateOf reg′ book′ (withCounts (s .watch) c′)
-unfolding settle
 settle-is s b reg′ book′ c′ many same is =
-    let size : length (talliesIn reg′) ≡ records = length-map reg′ (λ (r : Station). r .tally) ∙ many in
-    let tallies : talliesOf b ≡ talliesIn reg′ = sym (ap talliesOf is) ∙ tallies-back book′ (talliesIn reg′) c′ size in
-    let counts : countsOf b ≡ c′ = sym (ap countsOf is) ∙ counts-back book′ (talliesIn reg′) c′ size in
-    λ i. stateOf ((ap (tallied (s .reg)) tallies ∙ tallied-bare (s .reg) reg′ same) i) (sym is i .slots) (withCounts (s .watch) (counts i))
+    settle-parts s b reg′ book′ c′ many is ∙ ap (λ (l : List Station). stateOf l book′ (withCounts (s .watch) c′)) (tallied-bare (s .reg) reg′ same)
 
 pub tallied-tallies : (reg : List Station) (ts : List ℕ) → length ts ≡ length reg → talliesIn (tallied reg ts) ≡ ts
 unfolding tallied
