@@ -1,6 +1,6 @@
 -- What each stage needs, and that stages one after the other come to what is to be done.
 -- Assumes nothing.
-use mathlib.Core.Path.{_≡_, refl, sym, ap, subst, subst₃, _∙_}
+use mathlib.Core.Path.{_≡_, refl, sym, ap, ap₂, subst, subst₃, _∙_}
 use mathlib.Core.Bool.{Bool, true, false}
 use mathlib.Core.List.{List, [], _∷_, map}
 use Prim.Native.Nat.{ℕ, _+_, _≤_, _<_}
@@ -18,11 +18,10 @@ use Rattle.ship.specs.Ship.{blank}
 use Rattle.plan.specs.declared.Plan.{Plan}
 use Rattle.book.specs.declared.Watch.{Watch}
 use Rattle.book.specs.Book.{ours, bookOf, released}
-use Rattle.book.specs.Watch.{newWatch}
 use Rattle.walks.specs.Out.{Out, out, Ends}
 use Rattle.register.specs.declared.Reply.{Reply}
-use Rattle.register.specs.declared.Answer.the-variants.{Planned, Begun}
-use Rattle.register.specs.State.{State, stateOf, newState, talliesIn, bookIn, withCounts, settle}
+use Rattle.register.specs.declared.Answer.the-variants.{Planned}
+use Rattle.register.specs.State.{State, stateOf, newState, talliesIn, bookIn, withCounts, settle, aged}
 use Rattle.register.specs.Register.{slidOne, slid}
 use Rattle.register.specs.Answers.{answered, no, outOf}
 use Rattle.register.proofs.Settling.{settle-is}
@@ -47,7 +46,7 @@ use Rattle.calls.specs.declared.told.Task.{Task}
 use Rattle.calls.specs.declared.told.Task.the-variants as task
 use Rattle.calls.specs.declared.told.Case.{Case}
 use Rattle.calls.specs.Calls.{planned, reports}
-use Rattle.calls.specs.Stages.{doneTask, Sized, FitTask, Fit, passOut, older, isHear, hearingBy, hearingOf, Sought, announcedOut, enteredOut, isChoose, queryBy, queryOf, Draws, drawnOut, isNew, clearedOut, isRest, sumsIn, Replans, RestNeeds, restBy, reportAnswer, reportedReply, doneOut, agedOut, carriedOut}
+use Rattle.calls.specs.Stages.{doneTask, Sized, FitTask, Fit, passOut, older, isNew, agedRecord, Aged, isHear, hearingBy, hearingOf, Sought, announcedOut, enteredOut, isChoose, queryBy, queryOf, Draws, drawnOut, sumsIn, Replans, RestNeeds, finishBy, reportAnswer, reportedReply, doneOut, agedOut, carriedOut}
 use Rattle.calls.proofs.Covered.{window-there}
 
 -- where two functions say what they leave, both one after the other leave this
@@ -163,42 +162,7 @@ unfolding queryOf
 chosen-is c ys bs o zs cs r zs′ cs′ n e d f =
     ends-at ((λ i. ownedOut (d .answers i) (d .leaves i) (d .writes i)) ∙ choose-comes (c .task) (c .watch) ys bs e (n .fits)) f
 
--- ---- a new book and register
-
-all-blank : (ys : List Station) → map (λ (s : Station). blank) ys ≡ replicate (length ys) blank
-all-blank [] = refl
-all-blank (r ∷ ys) = ap (λ (l : List Station). blank ∷ l) (all-blank ys)
-
-new-comes : (t : Task) (w : Watch) (ys : List Station) (bs : List ℕ) → isNew t ≡ true → length ys ≡ records → length bs ≡ slotTimes
-    → clearedOut (map (λ (s : Station). blank) ys) bs ≡ outOf (doneTask t (stateOf ys bs w))
-unfolding doneTask newState
-new-comes (task.Refused r) w ys bs e many size = never e
-new-comes task.Nothing w ys bs e many size = never e
-new-comes (task.Hear x) w ys bs e many size = never e
-new-comes (task.Plan p) w ys bs e many size = never e
-new-comes (task.Own o) w ys bs e many size = never e
-new-comes (task.Choose a) w ys bs e many size = never e
-new-comes (task.Report t) w ys bs e many size = never e
-new-comes task.New w ys bs e many size =
-    λ i. out (record { watch = newWatch; answer = Begun }) ((all-blank ys ∙ ap (λ (n : ℕ). replicate n blank) many) i) (ap (λ (n : ℕ). replicate n 0) size i)
-new-comes task.Sum w ys bs e many size = never e
-
-pub begun-is : (c : Case) (ys : List Station) (bs : List ℕ) (r : Reply) (zs : List Station) (cs : List ℕ) → Sized ys bs → isNew (c .task) ≡ true
-    → Ends (clearedOut (map (λ (s : Station). blank) ys) bs) r zs cs → Ends (doneOut c ys bs) r zs cs
-begun-is c ys bs r zs cs z e f = ends-at (new-comes (c .task) (c .watch) ys bs e (z .register) (z .size)) f
-
 -- ---- the rest
-
-pub rest-else : (t : Task) → isHear t ≡ false → isChoose t ≡ false → isNew t ≡ false → isRest t ≡ true
-rest-else (task.Refused r) h c n = refl
-rest-else task.Nothing h c n = refl
-rest-else (task.Hear x) h c n = never (sym h)
-rest-else (task.Plan p) h c n = refl
-rest-else (task.Own o) h c n = refl
-rest-else (task.Choose a) h c n = never (sym c)
-rest-else (task.Report t) h c n = refl
-rest-else task.New h c n = never (sym n)
-rest-else task.Sum h c n = refl
 
 -- no more stations than records
 heard-most : (l : List ℕ) → heardStations l ≤ length l
@@ -238,28 +202,45 @@ report-comes w t ys bs = go (ownAt bs (w .present) 0)
     go true = refl
     go false = refl
 
-rest-comes : (t : Task) (c : Case) (ys : List Station) (bs : List ℕ) (r : Reply) (cs : List ℕ) → isRest t ≡ true → length ys ≡ records → length bs ≡ slotTimes
-    → restBy t c (sumsIn ys) bs r cs → Ends (outOf (doneTask t (stateOf ys bs (c .watch)))) r ys cs
-unfolding doneTask sumsIn
-rest-comes (task.Refused x) c ys bs r cs e many size f = record { answers = f .0; leaves = refl; writes = f .1 }
-rest-comes task.Nothing c ys bs r cs e many size f = record { answers = f .0; leaves = refl; writes = f .1 }
-rest-comes (task.Hear x) c ys bs r cs e many size f = never e
-rest-comes (task.Plan p) c ys bs r cs e many size f = plan-comes (c .watch) p ys bs r cs many size f
-rest-comes (task.Own o) c ys bs r cs e many size f = record { answers = f .0; leaves = refl; writes = f .1 }
-rest-comes (task.Choose a) c ys bs r cs e many size f = never e
-rest-comes (task.Report t) c ys bs r cs e many size f = ends-at (report-comes (c .watch) t ys bs) (record { answers = f .0; leaves = refl; writes = f .1 })
-rest-comes task.New c ys bs r cs e many size f = never e
-rest-comes task.Sum c ys bs r cs e many size f = record { answers = f .0; leaves = refl; writes = f .1 }
-
-pub rest-is : (c : Case) (ys : List Station) (bs : List ℕ) (r : Reply) (cs : List ℕ) → Sized ys bs → isRest (c .task) ≡ true
-    → restBy (c .task) c (sumsIn ys) bs r cs → Ends (doneOut c ys bs) r ys cs
-rest-is c ys bs r cs z e f = rest-comes (c .task) c ys bs r cs e (z .register) (z .size) f
+pub rest-comes : (t : Task) (c : Case) (ys : List Station) (bs : List ℕ) (r : Reply) (cs : List ℕ) → isHear t ≡ false → isChoose t ≡ false → Sized ys bs
+    → (isNew t ≡ true → ys ≡ replicate records blank) → finishBy (isNew t) t c (sumsIn ys) bs r cs → Ends (outOf (doneTask t (stateOf ys bs (c .watch)))) r ys cs
+unfolding doneTask sumsIn newState
+rest-comes (task.Refused x) c ys bs r cs h a z n f = record { answers = f .0; leaves = refl; writes = f .1 }
+rest-comes task.Nothing c ys bs r cs h a z n f = record { answers = f .0; leaves = refl; writes = f .1 }
+rest-comes (task.Hear x) c ys bs r cs h a z n f = never (sym h)
+rest-comes (task.Plan p) c ys bs r cs h a z n f = plan-comes (c .watch) p ys bs r cs (z .register) (z .size) f
+rest-comes (task.Own o) c ys bs r cs h a z n f = record { answers = f .0; leaves = refl; writes = f .1 }
+rest-comes (task.Choose x) c ys bs r cs h a z n f = never (sym a)
+rest-comes (task.Report t) c ys bs r cs h a z n f = ends-at (report-comes (c .watch) t ys bs) (record { answers = f .0; leaves = refl; writes = f .1 })
+rest-comes task.New c ys bs r cs h a z n f = record { answers = f .0; leaves = n refl; writes = f .1 ∙ ap (λ (m : ℕ). replicate m 0) (z .size) }
+rest-comes task.Sum c ys bs r cs h a z n f = record { answers = f .0; leaves = refl; writes = f .1 }
 
 -- ---- slots that pass, and the rest
 
-pub aged-fits : (c : Case) (ys : List Station) (bs : List ℕ) → Fit ys bs c → Fit (map (λ (s : Station). older s c) ys) bs c
+all-blank : (f : Station → Station) → ((s : Station) → f s ≡ blank) → (ys : List Station) → map f ys ≡ replicate (length ys) blank
+all-blank f e [] = refl
+all-blank f e (r ∷ ys) = ap₂ (λ (s : Station) (l : List Station). s ∷ l) (e r) (all-blank f e ys)
+
+pub aged-fits : (c : Case) (ys : List Station) (bs : List ℕ) → Fit ys bs c → Aged (map (λ (s : Station). agedRecord s c) ys) bs c
 aged-fits c ys bs n =
-    record { sized = record { register = length-map ys (λ (s : Station). older s c) ∙ n .sized .register; size = n .sized .size }; fits = n .fits }
+    record {
+      fit = record { sized = record { register = length-map ys (λ (s : Station). agedRecord s c) ∙ n .sized .register; size = n .sized .size }; fits = n .fits };
+      fresh = λ e. all-blank (λ s. agedRecord s c) (λ s. ap (λ (b : Bool). pick b blank (older s c)) e) ys ∙ ap (λ (m : ℕ). replicate m blank) (n .sized .register);
+    }
+
+-- what is done comes to the same, whatever the register where all begins anew
+pub aged-is : (t : Task) (c : Case) (ys : List Station) (bs : List ℕ)
+    → doneTask t (stateOf (map (λ (s : Station). pick (isNew t) blank (older s c)) ys) bs (c .watch)) ≡ doneTask t (aged (c .passes) (stateOf ys bs (c .watch)))
+unfolding doneTask
+aged-is (task.Refused r) c ys bs = refl
+aged-is task.Nothing c ys bs = refl
+aged-is (task.Hear x) c ys bs = refl
+aged-is (task.Plan p) c ys bs = refl
+aged-is (task.Own o) c ys bs = refl
+aged-is (task.Choose a) c ys bs = refl
+aged-is (task.Report t) c ys bs = refl
+aged-is task.New c ys bs = refl
+aged-is task.Sum c ys bs = refl
 
 slid-plan : (s : State) (n : ℕ) → slid s n .watch .channel .plan ≡ s .watch .channel .plan
 unfolding slidOne settle

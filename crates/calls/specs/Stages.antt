@@ -6,12 +6,13 @@ use mathlib.Core.Bool.{Bool, true, false}
 use mathlib.Core.List.{List, [], _∷_}
 use lib.Dec.{ltb}
 use lib.ListN.{length, replicate}
-use Rattle.laws.specs.Tests.{ladder}
+use Rattle.laws.specs.Tests.{pick, ladder}
 use Rattle.laws.specs.Counting.{one, sum}
 use Rattle.limits.specs.Limits.{frameSlots, slotTimes, records, widest, mostTimeOut}
 use Rattle.numbers.specs.declared.Refusal.the-variants.{NotOwn}
 use Rattle.message.specs.declared.Message.the-variants.{Other}
 use Rattle.ship.specs.declared.Station.{Station}
+use Rattle.ship.specs.Ship.{blank}
 use Rattle.plan.specs.declared.Plan.{Plan}
 use Rattle.book.specs.declared.Watch.{Watch}
 use Rattle.book.specs.Book.{ours, putAt, released, Puts, Gives}
@@ -111,6 +112,25 @@ passOut c reg book = let s = slid (stateOf reg book (c .watch)) (c .passes) in o
 abbrev pub older : Station → Case → Station
 older r c = withHold r (r .hold - c .passes)
 
+abbrev pub isNew : Task → Bool
+isNew (task.Refused r) = false
+isNew task.Nothing = false
+isNew (task.Hear x) = false
+isNew (task.Plan p) = false
+isNew (task.Own o) = false
+isNew (task.Choose a) = false
+isNew (task.Report t) = false
+isNew task.New = true
+isNew task.Sum = false
+
+abbrev pub agedRecord : Station → Case → Station
+agedRecord r c = pick (isNew (c .task)) blank (older r c)
+
+-- what is needed once the slots have passed
+pub record Aged (reg : List Station) (book : List ℕ) (c : Case) : Type 0 where
+  pub fit : Fit reg book c
+  pub fresh : isNew (c .task) ≡ true → reg ≡ replicate records blank
+
 -- ---- hearing
 
 abbrev pub isHear : Task → Bool
@@ -194,34 +214,7 @@ pub record Draws (book : List ℕ) (q : Query) : Type 0 where
 abbrev pub drawnOut : Case → List Station → List ℕ → Out Owning
 drawnOut c reg book = let q = queryOf book c in out (owningOf q (judged book q (scanned reg book q))) reg book
 
--- ---- a new book and register
-
-abbrev pub isNew : Task → Bool
-isNew (task.Refused r) = false
-isNew task.Nothing = false
-isNew (task.Hear x) = false
-isNew (task.Plan p) = false
-isNew (task.Own o) = false
-isNew (task.Choose a) = false
-isNew (task.Report t) = false
-isNew task.New = true
-isNew task.Sum = false
-
-abbrev pub clearedOut : List Station → List ℕ → Out Reply
-clearedOut reg book = out (record { watch = newWatch; answer = Begun }) reg (replicate (length book) 0)
-
 -- ---- the rest
-
-abbrev pub isRest : Task → Bool
-isRest (task.Refused r) = true
-isRest task.Nothing = true
-isRest (task.Hear x) = false
-isRest (task.Plan p) = true
-isRest (task.Own o) = true
-isRest (task.Choose a) = false
-isRest (task.Report t) = true
-isRest task.New = false
-isRest task.Sum = true
 
 abbrev pub noSums : Sums
 noSums = record { stations = 0; total = 0 }
@@ -270,6 +263,14 @@ restBy (task.Choose a) c n book r book′ = Stays (c .watch) Passed book r book�
 restBy (task.Report t) c n book r book′ = (r ≡ reportedReply book (c .watch) n t) × (book′ ≡ book)
 restBy task.New c n book r book′ = Stays (c .watch) Passed book r book′
 restBy task.Sum c n book r book′ = Stays (c .watch) (Summed (n .total)) book r book′
+
+abbrev pub Clears : List ℕ → Reply → List ℕ → Type 0
+Clears book r book′ = (r ≡ record { watch = newWatch; answer = Begun }) × (book′ ≡ replicate (length book) 0)
+
+-- all begins anew, or it does not
+abbrev pub finishBy : Bool → Task → Case → Sums → List ℕ → Reply → List ℕ → Type 0
+finishBy true t c n book r book′ = Clears book r book′
+finishBy false t c n book r book′ = restBy t c n book r book′
 
 -- ---- all of it
 

@@ -5,19 +5,16 @@ ghost use mathlib.Core.Bool.{true, false};
 ghost use mathlib.Core.List.{map};
 ghost use Prim.Native.Nat.{_+_, _≤_, _<_};
 ghost use lib.Dec.{ltb};
-ghost use lib.ListN.{length, replicate};
+ghost use lib.ListN.{length};
 ghost use Rattle.laws.specs.Counting.{one};
 ghost use Rattle.limits.specs.Limits.{slotTimes, records};
 ghost use Rattle.ship.specs.declared.Station.{Station as Record};
-ghost use Rattle.ship.specs.Ship.{blank};
-ghost use Rattle.book.specs.Watch.{newWatch};
-ghost use Rattle.register.specs.declared.Answer.the-variants.{Begun};
 ghost use Rattle.walks.specs.Out.{Ends};
 ghost use Rattle.hearing.specs.Booking.{Noted, fitOf, atOf, rowsOf, Booked};
 ghost use Rattle.choosing.specs.Scanning.{judged};
 ghost use Rattle.choosing.specs.Owning.{owningOf};
 ghost use Rattle.plan.specs.Plan.{InRange};
-ghost use Rattle.calls.specs.Stages.{Sized, Fit, started, PassesOne, recased, passOut, older, isHear, hearingOf, Sought, announcedOut, enteredOut, isChoose, Asks, queryOf, Draws, drawnOut, isNew, clearedOut, noSums, SumFits, sumWith, sumsIn, Replans, reportedReply, RestNeeds, restBy, isRest, doneOut, agedOut, carriedOut};
+ghost use Rattle.calls.specs.Stages.{Sized, Fit, started, PassesOne, recased, passOut, older, isNew, agedRecord, Aged, isHear, hearingOf, Sought, announcedOut, enteredOut, isChoose, Asks, queryOf, Draws, drawnOut, noSums, SumFits, sumWith, sumsIn, Replans, reportedReply, RestNeeds, restBy, Clears, finishBy, doneOut, agedOut, carriedOut};
 use crate::told::Case;
 use crate::told::Task;
 use crate::told::with_ship;
@@ -154,13 +151,33 @@ fn older(s: Station, c: Case) -> Station
     r
 }
 
+fn is_new(c: Case) -> bool
+    ensures { λ r. ⌜ r ≡ isNew (c .task) ⌝ }
+{
+    let task = c.task;
+    match task {
+        Task::New => true,
+        _ => false,
+    }
+}
+
+// A record once the slots have passed: blank, where all begins anew.
+fn aged(s: Station, c: Case) -> Station
+    ensures { λ r. ⌜ r ≡ agedRecord s c ⌝ }
+{
+    if is_new(c) {
+        return ship::blank();
+    }
+    older(s, c)
+}
+
 fn age(reg: &mut [Station], c: Case)
     requires { ⌜ length (now reg) ≡ records ⌝ }
-    ensures { λ _. ⌜ now (reg .exit) ≡ map (λ (s : Record). older s c) (now (reg .entry)) ⌝ }
+    ensures { λ _. ⌜ now (reg .exit) ≡ map (λ (s : Record). agedRecord s c) (now (reg .entry)) ⌝ }
 {
     let mut i: usize = 0;
     while i < reg.len() {
-        reg[i] = older(reg[i], c);
+        reg[i] = aged(reg[i], c);
         i += 1;
     }
 }
@@ -294,63 +311,7 @@ fn choose(reg: &mut [Station], book: &mut [u16], c: Case) -> Reply
     own_frames(reg, book, o)
 }
 
-// ---- a new book and register
-
-fn is_new(c: Case) -> bool
-    ensures { λ r. ⌜ r ≡ isNew (c .task) ⌝ }
-{
-    let task = c.task;
-    match task {
-        Task::New => true,
-        _ => false,
-    }
-}
-
-fn renewed(s: Station, c: Case) -> Station
-    ensures { λ r. ⌜ r ≡ blank ⌝ }
-{
-    ship::blank()
-}
-
-fn renew(reg: &mut [Station], c: Case)
-    requires { ⌜ length (now reg) ≡ records ⌝ }
-    ensures { λ _. ⌜ now (reg .exit) ≡ map (λ (s : Record). blank) (now (reg .entry)) ⌝ }
-{
-    let mut i: usize = 0;
-    while i < reg.len() {
-        reg[i] = renewed(reg[i], c);
-        i += 1;
-    }
-}
-
-fn cleared(book: &mut [u16], c: Case) -> Reply
-    requires { ⌜ length (now book) ≡ slotTimes ⌝ }
-    ensures { λ r. ⌜ (r ≡ record { watch = newWatch; answer = Begun }) × (now (book .exit) ≡ replicate (length (now (book .entry))) 0) ⌝ }
-{
-    clear(book);
-    let watch = new_watch();
-    Reply {
-        watch,
-        answer: Answer::Begun,
-    }
-}
-
-fn new_book(reg: &mut [Station], book: &mut [u16], c: Case) -> Reply
-    requires { ⌜ Sized (now reg) (now book) ⌝ }
-    ensures { λ r. ⌜ Ends (clearedOut (now (reg .entry)) (now (book .entry))) r (now (reg .exit)) (now (book .exit)) ⌝ }
-{
-    cleared(book, c)
-}
-
-fn begin(reg: &mut [Station], book: &mut [u16], c: Case) -> Reply
-    requires { ⌜ Fit (now reg) (now book) c × (isNew (c .task) ≡ true) ⌝ }
-    ensures { λ r. ⌜ Ends (doneOut c (now (reg .entry)) (now (book .entry))) r (now (reg .exit)) (now (book .exit)) ⌝ }
-{
-    renew(reg, c);
-    new_book(reg, book, c)
-}
-
-// ---- plan, own, report, sum
+// ---- plan, own, report, begin, sum
 
 fn no_sums(c: Case) -> Sums
     ensures { λ r. ⌜ r ≡ noSums ⌝ }
@@ -459,39 +420,48 @@ fn rest_of(book: &mut [u16], c: Case, n: Sums) -> Reply
     }
 }
 
+// An empty book, and the first watch.
+fn cleared(book: &mut [u16]) -> Reply
+    ensures { λ r. ⌜ Clears (now (book .entry)) r (now (book .exit)) ⌝ }
+{
+    clear(book);
+    let watch = new_watch();
+    reply(watch, Answer::Begun)
+}
+
+fn finish(book: &mut [u16], c: Case, n: Sums) -> Reply
+    requires { ⌜ RestNeeds (now book) c n ⌝ }
+    ensures { λ r. ⌜ finishBy (isNew (c .task)) (c .task) c n (now (book .entry)) r (now (book .exit)) ⌝ }
+{
+    if is_new(c) {
+        return cleared(book);
+    }
+    rest_of(book, c, n)
+}
+
 fn rest(reg: &mut [Station], book: &mut [u16], c: Case) -> Reply
-    requires { ⌜ Fit (now reg) (now book) c × (isRest (c .task) ≡ true) ⌝ }
+    requires { ⌜ Aged (now reg) (now book) c × (isHear (c .task) ≡ false) × (isChoose (c .task) ≡ false) ⌝ }
     ensures { λ r. ⌜ Ends (doneOut c (now (reg .entry)) (now (book .entry))) r (now (reg .exit)) (now (book .exit)) ⌝ }
 {
     let d = same(book, c);
     let n = sum_all(reg, d);
-    rest_of(book, d, n)
+    finish(book, d, n)
 }
 
 // ---- what is left to be done
 
-fn begin_or_rest(reg: &mut [Station], book: &mut [u16], c: Case) -> Reply
-    requires { ⌜ Fit (now reg) (now book) c × (isHear (c .task) ≡ false) × (isChoose (c .task) ≡ false) ⌝ }
-    ensures { λ r. ⌜ Ends (doneOut c (now (reg .entry)) (now (book .entry))) r (now (reg .exit)) (now (book .exit)) ⌝ }
-{
-    if is_new(c) {
-        return begin(reg, book, c);
-    }
-    rest(reg, book, c)
-}
-
 fn choose_or_rest(reg: &mut [Station], book: &mut [u16], c: Case) -> Reply
-    requires { ⌜ Fit (now reg) (now book) c × (isHear (c .task) ≡ false) ⌝ }
+    requires { ⌜ Aged (now reg) (now book) c × (isHear (c .task) ≡ false) ⌝ }
     ensures { λ r. ⌜ Ends (doneOut c (now (reg .entry)) (now (book .entry))) r (now (reg .exit)) (now (book .exit)) ⌝ }
 {
     if is_choose(c) {
         return choose(reg, book, c);
     }
-    begin_or_rest(reg, book, c)
+    rest(reg, book, c)
 }
 
 fn answer(reg: &mut [Station], book: &mut [u16], c: Case) -> Reply
-    requires { ⌜ Fit (now reg) (now book) c ⌝ }
+    requires { ⌜ Aged (now reg) (now book) c ⌝ }
     ensures { λ r. ⌜ Ends (doneOut c (now (reg .entry)) (now (book .entry))) r (now (reg .exit)) (now (book .exit)) ⌝ }
 {
     if is_hear(c) {

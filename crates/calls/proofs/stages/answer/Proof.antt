@@ -3,7 +3,7 @@ use mathlib.Core.Path.{_≡_}
 use mathlib.Core.Bool.{true, false}
 use Rattle.walks.specs.Out.{Ends}
 use Rattle.register.proofs.Data.{ReplyD, ReplyL}
-use Rattle.calls.specs.Stages.{Fit, isHear, doneOut}
+use Rattle.calls.specs.Stages.{Fit, Aged, isHear, doneOut}
 use Rattle.calls.proofs.Data.{CaseD, CaseL}
 use contract.Running.{givenOf, tables, tablesOf}
 use denote.Triple.Table.{entered, cited}
@@ -19,8 +19,8 @@ unfolding code.routine tablesOf
 answer-spec 𝓤 H 𝓜 𝓖 𝓡 =
     entered 𝓤 H _ (tables 𝓤 H 𝓜 𝓡 code.env .C) (tables 𝓤 H 𝓜 𝓡 code.env .Λ) f.Key.name code.function (code.unfolded 𝓤 H 𝓜 𝓡)
     (meets CaseD CaseL ReplyD ReplyL (λ c. isHear (c .task)) (λ ys bs c. Fit ys bs c × (isHear (c .task) ≡ true)) (λ c ys bs r zs cs. Ends (doneOut c ys bs) r zs cs)
-    (λ ys bs c. Fit ys bs c × (isHear (c .task) ≡ false)) (λ c ys bs r zs cs. Ends (doneOut c ys bs) r zs cs) Fit (λ c ys bs r zs cs. Ends (doneOut c ys bs) r zs cs)
-    (λ ys bs c n e. (n, e)) (λ ys bs c n e. (n, e)) (λ ys bs c r zs cs n e f lz lc. f) (λ ys bs c r zs cs n e f lz lc. f) t.Symbol.name g.Symbol.name h.Symbol.name
+    (λ ys bs c. Aged ys bs c × (isHear (c .task) ≡ false)) (λ c ys bs r zs cs. Ends (doneOut c ys bs) r zs cs) Aged (λ c ys bs r zs cs. Ends (doneOut c ys bs) r zs cs)
+    (λ ys bs c n e. (n .fit, e)) (λ ys bs c n e. (n, e)) (λ ys bs c r zs cs n e f lz lc. f) (λ ys bs c r zs cs n e f lz lc. f) t.Symbol.name g.Symbol.name h.Symbol.name
     𝓤 H (𝓖 .A) (givenOf 𝓤 H 𝓜 𝓖) (tablesOf 𝓤 H 𝓜 (tables 𝓤 H 𝓜 𝓡 code.env))
     (cited 𝓤 H _ 𝓜 𝓡 code.env t.Symbol.name _ code.calls-calls·stages·is-hear (t.Met.met 𝓤 H 𝓜 𝓖 𝓡))
     (cited 𝓤 H _ 𝓜 𝓡 code.env g.Symbol.name _ code.calls-calls·stages·hear (g.Met.met 𝓤 H 𝓜 𝓖 𝓡))

@@ -3,14 +3,14 @@ use mathlib.Core.Path.{_≡_}
 use mathlib.Core.Bool.{true, false}
 use Rattle.walks.specs.Out.{Ends}
 use Rattle.register.proofs.Data.{ReplyD, ReplyL}
-use Rattle.calls.specs.Stages.{Fit, isHear, isChoose, doneOut}
+use Rattle.calls.specs.Stages.{Fit, Aged, isHear, isChoose, doneOut}
 use Rattle.calls.proofs.Data.{CaseD, CaseL}
 use contract.Running.{givenOf, tables, tablesOf}
 use denote.Triple.Table.{entered, cited}
 use Rattle.walks.proofs.Either.{meets}
 use Rattle.calls.proofs.stages.is_choose as t
 use Rattle.calls.proofs.stages.choose as g
-use Rattle.calls.proofs.stages.begin_or_rest as h
+use Rattle.calls.proofs.stages.rest as h
 use Rattle.calls.proofs.stages.choose_or_rest as f
 use Rattle.calls.proofs.stages.choose_or_rest.Code as code
 
@@ -19,11 +19,11 @@ unfolding code.routine tablesOf
 choose-or-rest-spec 𝓤 H 𝓜 𝓖 𝓡 =
     entered 𝓤 H _ (tables 𝓤 H 𝓜 𝓡 code.env .C) (tables 𝓤 H 𝓜 𝓡 code.env .Λ) f.Key.name code.function (code.unfolded 𝓤 H 𝓜 𝓡)
     (meets CaseD CaseL ReplyD ReplyL (λ c. isChoose (c .task)) (λ ys bs c. Fit ys bs c × (isChoose (c .task) ≡ true)) (λ c ys bs r zs cs. Ends (doneOut c ys bs) r zs cs)
-    (λ ys bs c. Fit ys bs c × (isHear (c .task) ≡ false) × (isChoose (c .task) ≡ false)) (λ c ys bs r zs cs. Ends (doneOut c ys bs) r zs cs)
-    (λ ys bs c. Fit ys bs c × (isHear (c .task) ≡ false)) (λ c ys bs r zs cs. Ends (doneOut c ys bs) r zs cs)
-    (λ ys bs c n e. (n .0, e)) (λ ys bs c n e. (n .0, n .1, e))
+    (λ ys bs c. Aged ys bs c × (isHear (c .task) ≡ false) × (isChoose (c .task) ≡ false)) (λ c ys bs r zs cs. Ends (doneOut c ys bs) r zs cs)
+    (λ ys bs c. Aged ys bs c × (isHear (c .task) ≡ false)) (λ c ys bs r zs cs. Ends (doneOut c ys bs) r zs cs)
+    (λ ys bs c n e. (n .0 .fit, e)) (λ ys bs c n e. (n .0, n .1, e))
     (λ ys bs c r zs cs n e f lz lc. f) (λ ys bs c r zs cs n e f lz lc. f) t.Symbol.name g.Symbol.name h.Symbol.name
     𝓤 H (𝓖 .A) (givenOf 𝓤 H 𝓜 𝓖) (tablesOf 𝓤 H 𝓜 (tables 𝓤 H 𝓜 𝓡 code.env))
     (cited 𝓤 H _ 𝓜 𝓡 code.env t.Symbol.name _ code.calls-calls·stages·is-choose (t.Met.met 𝓤 H 𝓜 𝓖 𝓡))
     (cited 𝓤 H _ 𝓜 𝓡 code.env g.Symbol.name _ code.calls-calls·stages·choose (g.Met.met 𝓤 H 𝓜 𝓖 𝓡))
-    (cited 𝓤 H _ 𝓜 𝓡 code.env h.Symbol.name _ code.calls-calls·stages·begin-or-rest (h.Met.met 𝓤 H 𝓜 𝓖 𝓡)))
+    (cited 𝓤 H _ 𝓜 𝓡 code.env h.Symbol.name _ code.calls-calls·stages·rest (h.Met.met 𝓤 H 𝓜 𝓖 𝓡)))
