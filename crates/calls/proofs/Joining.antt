@@ -29,6 +29,7 @@ use Rattle.register.proofs.Passing.{passes-slid}
 use Rattle.reporting.specs.Report.{ownAt, timeOut, heardStations, subMessage, reported}
 use Rattle.reporting.specs.declared.Time.{Time}
 use Rattle.reporting.specs.declared.Reported.the-variants.{Done, Refused as NotReported}
+use Rattle.hearing.specs.declared.Telling.{Telling}
 use Rattle.hearing.specs.declared.Booking.{Booking}
 use Rattle.hearing.specs.Hear.{recordFor}
 use Rattle.hearing.specs.Booking.{fitOf, atOf, rowsOf, Noted, Booked, storedIn, freedOut, markedOut}
@@ -56,6 +57,26 @@ ends-at {r = r} {zs = zs} {cs = cs} e n = subst (λ q. Ends q r zs cs) e n
 pub ends-so : {Y : Type 0} {r : Y} {zs : List Station} {cs : List ℕ} {o : Out Y} → out r zs cs ≡ o → Ends o r zs cs
 ends-so e = record { answers = λ i. e i .answer; leaves = λ i. e i .reg; writes = λ i. e i .book }
 
+-- ---- by what is left to be done
+
+by-task : (P : Task → Type 0) → ((x : Telling) → P (task.Hear x)) → ((a : Wanted) → P (task.Choose a)) → P task.New
+    → ((t : Task) → isHear t ≡ false → isChoose t ≡ false → isNew t ≡ false → P t) → (t : Task) → P t
+by-task P h a n r (task.Refused x) = r (task.Refused x) refl refl refl
+by-task P h a n r task.Nothing = r task.Nothing refl refl refl
+by-task P h a n r (task.Hear x) = h x
+by-task P h a n r (task.Plan p) = r (task.Plan p) refl refl refl
+by-task P h a n r (task.Own o) = r (task.Own o) refl refl refl
+by-task P h a n r (task.Choose x) = a x
+by-task P h a n r (task.Report t) = r (task.Report t) refl refl refl
+by-task P h a n r task.New = n
+by-task P h a n r task.Sum = r task.Sum refl refl refl
+
+only-hear : (P : Task → Type 0) → ((x : Telling) → P (task.Hear x)) → (t : Task) → isHear t ≡ true → P t
+only-hear P h = by-task (λ t. isHear t ≡ true → P t) (λ x e. h x) (λ a e. never e) (λ e. never e) (λ t n c b e. never (sym n ∙ e))
+
+only-choose : (P : Task → Type 0) → ((a : Wanted) → P (task.Choose a)) → (t : Task) → isChoose t ≡ true → P t
+only-choose P c = by-task (λ t. isChoose t ≡ true → P t) (λ x e. never e) (λ a e. c a) (λ e. never e) (λ t h n b e. never (sym n ∙ e))
+
 -- ---- hearing
 
 pub freed-fits : (b : Booking) (ys : List Station) (bs : List ℕ) (y : Booking) (zs : List Station) (cs : List ℕ) → Booked ys bs b
@@ -81,25 +102,13 @@ sought-fits c ys bs b zs cs z s =
       marks = n .marks;
     }
 
-hear-comes : (t : Task) (w : Watch) (ys : List Station) (bs : List ℕ) (b : Booking) → isHear t ≡ true → length ys ≡ records
-    → (let q = hearingBy t w in let k = recordFor ys (q .telling .source) in Noted q (fitOf q k) (atOf q k) (rowsOf q k) b)
-    → enteredOut b ys bs ≡ outOf (doneTask t (stateOf ys bs w))
-unfolding doneTask
-hear-comes (task.Refused r) w ys bs b e many n = never e
-hear-comes task.Nothing w ys bs b e many n = never e
-hear-comes (task.Hear x) w ys bs b e many n = hears-is ys bs w x many b n
-hear-comes (task.Plan p) w ys bs b e many n = never e
-hear-comes (task.Own o) w ys bs b e many n = never e
-hear-comes (task.Choose a) w ys bs b e many n = never e
-hear-comes (task.Report t) w ys bs b e many n = never e
-hear-comes task.New w ys bs b e many n = never e
-hear-comes task.Sum w ys bs b e many n = never e
-
 pub heard-is : (c : Case) (ys : List Station) (bs : List ℕ) (b : Booking) (zs : List Station) (cs : List ℕ) (r : Reply) (zs′ : List Station) (cs′ : List ℕ)
     → Sized ys bs → isHear (c .task) ≡ true → Sought c ys bs b zs cs → Ends (enteredOut b zs cs) r zs′ cs′ → Ends (doneOut c ys bs) r zs′ cs′
-unfolding hearingOf
+unfolding hearingOf doneTask
 heard-is c ys bs b zs cs r zs′ cs′ z e s f =
-    ends-at (ap (λ l. enteredOut b l cs) (s .leaves) ∙ ap (enteredOut b ys) (s .writes) ∙ hear-comes (c .task) (c .watch) ys bs b e (z .register) (s .noted)) f
+    ends-at (ap (λ l. enteredOut b l cs) (s .leaves) ∙ ap (enteredOut b ys) (s .writes)
+    ∙ only-hear (λ t. (let q = hearingBy t (c .watch) in let k = recordFor ys (q .telling .source) in Noted q (fitOf q k) (atOf q k) (rowsOf q k) b)
+    → enteredOut b ys bs ≡ outOf (doneTask t (stateOf ys bs (c .watch)))) (λ x. hears-is ys bs (c .watch) x (z .register) b) (c .task) e (s .noted)) f
 
 -- ---- choosing
 
@@ -113,20 +122,11 @@ asked-draws bs w a size few =
       width = narrow (w .present) (w .channel .plan) (a .k) (a .timeout) _ refl;
     }
 
-choose-draws : (t : Task) (w : Watch) (bs : List ℕ) → isChoose t ≡ true → length bs ≡ slotTimes → FitTask t (w .channel .plan) → Draws bs (queryBy t bs w)
-choose-draws (task.Refused r) w bs e size f = never e
-choose-draws task.Nothing w bs e size f = never e
-choose-draws (task.Hear x) w bs e size f = never e
-choose-draws (task.Plan p) w bs e size f = never e
-choose-draws (task.Own o) w bs e size f = never e
-choose-draws (task.Choose a) w bs e size f = asked-draws bs w a size (window-there (w .channel .plan) a (f .1) .1)
-choose-draws (task.Report t) w bs e size f = never e
-choose-draws task.New w bs e size f = never e
-choose-draws task.Sum w bs e size f = never e
-
 pub drawn-fits : (c : Case) (ys : List Station) (bs : List ℕ) → Fit ys bs c → isChoose (c .task) ≡ true → Draws bs (queryOf bs c)
 unfolding queryOf
-drawn-fits c ys bs n e = choose-draws (c .task) (c .watch) bs e (n .sized .size) (n .fits)
+drawn-fits c ys bs n e =
+    only-choose (λ t. FitTask t (c .watch .channel .plan) → Draws bs (queryBy t bs (c .watch)))
+    (λ a f. asked-draws bs (c .watch) a (n .sized .size) (window-there (c .watch .channel .plan) a (f .1) .1)) (c .task) e (n .fits)
 
 asked-watch : (bs : List ℕ) (w : Watch) (a : Wanted) → asked bs w a .watch ≡ w
 unfolding asked
@@ -136,21 +136,6 @@ asked-window : (bs : List ℕ) (w : Watch) (a : Wanted) → asked bs w a .window
 unfolding asked
 asked-window bs w a = refl
 
-choose-comes : (t : Task) (w : Watch) (ys : List Station) (bs : List ℕ) → isChoose t ≡ true → FitTask t (w .channel .plan)
-    → (let q = queryBy t bs w in ownedOut (owningOf q (judged bs q (scanned ys bs q))) ys bs) ≡ outOf (doneTask t (stateOf ys bs w))
-unfolding doneTask
-choose-comes (task.Refused r) w ys bs e f = never e
-choose-comes task.Nothing w ys bs e f = never e
-choose-comes (task.Hear x) w ys bs e f = never e
-choose-comes (task.Plan p) w ys bs e f = never e
-choose-comes (task.Own o) w ys bs e f = never e
-choose-comes (task.Choose a) w ys bs e f =
-    let q = asked bs w a in
-    ap (λ p. ownedOut (owningOf q p) ys bs) (finds-the-choice ys bs w a (window-there (w .channel .plan) a (f .1) .1)) ∙ chooses-is ys bs w a q (asked-watch bs w a) (asked-window bs w a)
-choose-comes (task.Report t) w ys bs e f = never e
-choose-comes task.New w ys bs e f = never e
-choose-comes task.Sum w ys bs e f = never e
-
 pub owns-fits : (c : Case) (ys : List Station) (bs : List ℕ) (o : Owning) (zs : List Station) (cs : List ℕ) → Sized ys bs → Ends (drawnOut c ys bs) o zs cs → Owns zs cs o
 owns-fits c ys bs o zs cs z e =
     let q = queryOf bs c in
@@ -158,9 +143,13 @@ owns-fits c ys bs o zs cs z e =
 
 pub chosen-is : (c : Case) (ys : List Station) (bs : List ℕ) (o : Owning) (zs : List Station) (cs : List ℕ) (r : Reply) (zs′ : List Station) (cs′ : List ℕ)
     → Fit ys bs c → isChoose (c .task) ≡ true → Ends (drawnOut c ys bs) o zs cs → Ends (ownedOut o zs cs) r zs′ cs′ → Ends (doneOut c ys bs) r zs′ cs′
-unfolding queryOf
+unfolding queryOf doneTask
 chosen-is c ys bs o zs cs r zs′ cs′ n e d f =
-    ends-at ((λ i. ownedOut (d .answers i) (d .leaves i) (d .writes i)) ∙ choose-comes (c .task) (c .watch) ys bs e (n .fits)) f
+    let w = c .watch in
+    ends-at ((λ i. ownedOut (d .answers i) (d .leaves i) (d .writes i)) ∙ only-choose (λ t. FitTask t (w .channel .plan)
+    → (let q = queryBy t bs w in ownedOut (owningOf q (judged bs q (scanned ys bs q))) ys bs) ≡ outOf (doneTask t (stateOf ys bs w)))
+    (λ a g. ap (λ p. ownedOut (owningOf (asked bs w a) p) ys bs) (finds-the-choice ys bs w a (window-there (w .channel .plan) a (g .1) .1))
+    ∙ chooses-is ys bs w a (asked bs w a) (asked-watch bs w a) (asked-window bs w a)) (c .task) e (n .fits)) f
 
 -- ---- the rest
 
@@ -232,15 +221,9 @@ aged-fits c ys bs n =
 pub aged-is : (t : Task) (c : Case) (ys : List Station) (bs : List ℕ)
     → doneTask t (stateOf (map (λ (s : Station). pick (isNew t) blank (older s c)) ys) bs (c .watch)) ≡ doneTask t (aged (c .passes) (stateOf ys bs (c .watch)))
 unfolding doneTask
-aged-is (task.Refused r) c ys bs = refl
-aged-is task.Nothing c ys bs = refl
-aged-is (task.Hear x) c ys bs = refl
-aged-is (task.Plan p) c ys bs = refl
-aged-is (task.Own o) c ys bs = refl
-aged-is (task.Choose a) c ys bs = refl
-aged-is (task.Report t) c ys bs = refl
-aged-is task.New c ys bs = refl
-aged-is task.Sum c ys bs = refl
+aged-is t c ys bs =
+    by-task (λ t. doneTask t (stateOf (map (λ (s : Station). pick (isNew t) blank (older s c)) ys) bs (c .watch)) ≡ doneTask t (aged (c .passes) (stateOf ys bs (c .watch))))
+    (λ x. refl) (λ a. refl) refl (λ t h a n. ap (λ (b : Bool). doneTask t (stateOf (map (λ (s : Station). pick b blank (older s c)) ys) bs (c .watch))) n) t
 
 slid-plan : (s : State) (n : ℕ) → slid s n .watch .channel .plan ≡ s .watch .channel .plan
 unfolding slidOne settle

@@ -30,10 +30,12 @@ use Rattle.reporting.specs.declared.Time.{Time}
 use Rattle.reporting.specs.declared.Reported.{Reported as Report}
 use Rattle.reporting.specs.declared.Reported.the-variants.{Done, Refused as NotReported}
 use Rattle.reporting.specs.Report.{ownAt, heardStations, reported}
+use Rattle.hearing.specs.declared.Telling.{Telling}
 use Rattle.hearing.specs.declared.Hearing.{Hearing}
 use Rattle.hearing.specs.declared.Booking.{Booking}
 use Rattle.hearing.specs.Hear.{tellingOf, recordFor, bookTests, hears}
 use Rattle.hearing.specs.Booking.{fitOf, atOf, rowsOf, Noted, storedIn, freedOut, markedOut}
+use Rattle.choosing.specs.declared.Wanted.{Wanted}
 use Rattle.choosing.specs.declared.Query.{Query}
 use Rattle.choosing.specs.declared.own.Owning.{Owning}
 use Rattle.choosing.specs.Choosing.{askFits}
@@ -58,6 +60,18 @@ doneTask (task.Choose a) s = ladder (drawTests s a) (chooses s a)
 doneTask (task.Report t) s = ladder ((ownAt (s .book) (s .watch .present) 0, no s NotOwn) ∷ []) (reports s t)
 doneTask task.New s = answered Begun (newState slotTimes records)
 doneTask task.Sum s = answered (Summed (sum (talliesIn (s .reg)))) s
+
+-- by what is left: something is heard, a slot is chosen, all begins anew, or the rest
+abbrev pub byTask : {A : Type 0} → (Telling → A) → (Wanted → A) → A → A → Task → A
+byTask h a n r (task.Refused x) = r
+byTask h a n r task.Nothing = r
+byTask h a n r (task.Hear x) = h x
+byTask h a n r (task.Plan p) = r
+byTask h a n r (task.Own o) = r
+byTask h a n r (task.Choose x) = a x
+byTask h a n r (task.Report t) = r
+byTask h a n r task.New = n
+byTask h a n r task.Sum = r
 
 -- ---- what the stages need
 
@@ -113,15 +127,7 @@ abbrev pub older : Station → Case → Station
 older r c = withHold r (r .hold - c .passes)
 
 abbrev pub isNew : Task → Bool
-isNew (task.Refused r) = false
-isNew task.Nothing = false
-isNew (task.Hear x) = false
-isNew (task.Plan p) = false
-isNew (task.Own o) = false
-isNew (task.Choose a) = false
-isNew (task.Report t) = false
-isNew task.New = true
-isNew task.Sum = false
+isNew t = byTask (λ x. false) (λ a. false) true false t
 
 abbrev pub agedRecord : Station → Case → Station
 agedRecord r c = pick (isNew (c .task)) blank (older r c)
@@ -134,26 +140,10 @@ pub record Aged (reg : List Station) (book : List ℕ) (c : Case) : Type 0 where
 -- ---- hearing
 
 abbrev pub isHear : Task → Bool
-isHear (task.Refused r) = false
-isHear task.Nothing = false
-isHear (task.Hear x) = true
-isHear (task.Plan p) = false
-isHear (task.Own o) = false
-isHear (task.Choose a) = false
-isHear (task.Report t) = false
-isHear task.New = false
-isHear task.Sum = false
+isHear t = byTask (λ x. true) (λ a. false) false false t
 
 abbrev pub hearingBy : Task → Watch → Hearing
-hearingBy (task.Refused r) w = record { watch = w; telling = tellingOf Other }
-hearingBy task.Nothing w = record { watch = w; telling = tellingOf Other }
-hearingBy (task.Hear x) w = record { watch = w; telling = x }
-hearingBy (task.Plan p) w = record { watch = w; telling = tellingOf Other }
-hearingBy (task.Own o) w = record { watch = w; telling = tellingOf Other }
-hearingBy (task.Choose a) w = record { watch = w; telling = tellingOf Other }
-hearingBy (task.Report t) w = record { watch = w; telling = tellingOf Other }
-hearingBy task.New w = record { watch = w; telling = tellingOf Other }
-hearingBy task.Sum w = record { watch = w; telling = tellingOf Other }
+hearingBy t w = record { watch = w; telling = byTask (λ x. x) (λ a. tellingOf Other) (tellingOf Other) (tellingOf Other) t }
 
 unfoldable pub hearingOf : Case → Hearing
 hearingOf c = hearingBy (c .task) (c .watch)
@@ -172,15 +162,7 @@ enteredOut b reg book = announcedOut b (storedIn reg b) book
 -- ---- choosing
 
 abbrev pub isChoose : Task → Bool
-isChoose (task.Refused r) = false
-isChoose task.Nothing = false
-isChoose (task.Hear x) = false
-isChoose (task.Plan p) = false
-isChoose (task.Own o) = false
-isChoose (task.Choose a) = true
-isChoose (task.Report t) = false
-isChoose task.New = false
-isChoose task.Sum = false
+isChoose t = byTask (λ x. false) (λ a. true) false false t
 
 -- what the query of a case needs
 pub record Asks (book : List ℕ) (c : Case) : Type 0 where
@@ -191,15 +173,7 @@ abbrev pub noQuery : Watch → Query
 noQuery w = record { watch = w; window = record { present = 0; first = 0; width = 0; timeout = 0 }; draw = 0; taken = true; free = 0 }
 
 abbrev pub queryBy : Task → List ℕ → Watch → Query
-queryBy (task.Refused r) book w = noQuery w
-queryBy task.Nothing book w = noQuery w
-queryBy (task.Hear x) book w = noQuery w
-queryBy (task.Plan p) book w = noQuery w
-queryBy (task.Own o) book w = noQuery w
-queryBy (task.Choose a) book w = asked book w a
-queryBy (task.Report t) book w = noQuery w
-queryBy task.New book w = noQuery w
-queryBy task.Sum book w = noQuery w
+queryBy t book w = byTask (λ x. noQuery w) (asked book w) (noQuery w) (noQuery w) t
 
 unfoldable pub queryOf : List ℕ → Case → Query
 queryOf book c = queryBy (c .task) book (c .watch)
