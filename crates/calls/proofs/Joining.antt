@@ -47,7 +47,7 @@ use Rattle.calls.specs.declared.told.Task.{Task}
 use Rattle.calls.specs.declared.told.Task.the-variants as task
 use Rattle.calls.specs.declared.told.Case.{Case}
 use Rattle.calls.specs.Calls.{planned, reports}
-use Rattle.calls.specs.Stages.{doneTask, Sized, FitTask, Fit, passOut, older, isNew, agedRecord, Aged, isHear, hearingBy, hearingOf, Sought, announcedOut, enteredOut, isChoose, queryBy, queryOf, Draws, drawnOut, sumsIn, Replans, RestNeeds, finishBy, reportAnswer, reportedReply, doneOut, agedOut, carriedOut}
+use Rattle.calls.specs.Stages.{doneTask, Sized, FitTask, Fit, passOut, older, isNew, agedRecord, Aged, isHear, hearingBy, hearingOf, Sought, announcedOut, isChoose, queryBy, queryOf, Draws, drawnOut, sumsIn, Replans, RestNeeds, finishBy, reportAnswer, reportedReply, doneOut, carriedOut}
 use Rattle.calls.proofs.Covered.{window-there}
 
 -- where two functions say what they leave, both one after the other leave this
@@ -88,14 +88,12 @@ pub announced : (b : Booking) (ys : List Station) (bs : List ℕ) (y : Booking) 
     → Ends (freedOut b ys bs) y zs cs → Ends (markedOut y zs cs) r zs′ cs′ → Ends (announcedOut b ys bs) r zs′ cs′
 announced b ys bs y zs cs r zs′ cs′ e f = ends-at (λ i. markedOut (e .answers i) (e .leaves i) (e .writes i)) f
 
-pub stored-fits : (b : Booking) (ys : List Station) (bs : List ℕ) → Booked ys bs b → Booked (storedIn ys b) bs b
-stored-fits b ys bs n = record { register = length-set ys _ _ ∙ n .register; size = n .size; inside = n .inside; frees = n .frees; marks = n .marks }
-
-pub sought-fits : (c : Case) (ys : List Station) (bs : List ℕ) (b : Booking) (zs : List Station) (cs : List ℕ) → Sized ys bs → Sought c ys bs b zs cs → Booked zs cs b
-sought-fits c ys bs b zs cs z s =
+pub stored-fits : (c : Case) (ys : List Station) (bs : List ℕ) (b : Booking) (zs : List Station) (cs : List ℕ) → Sized ys bs → Sought c ys bs b zs cs
+    → Booked (storedIn zs b) cs b
+stored-fits c ys bs b zs cs z s =
     let n = s .noted in
     record {
-      register = ap length (s .leaves) ∙ z .register;
+      register = length-set zs _ _ ∙ ap length (s .leaves) ∙ z .register;
       size = ap length (s .writes) ∙ z .size;
       inside = n .inside;
       frees = n .frees;
@@ -103,12 +101,12 @@ sought-fits c ys bs b zs cs z s =
     }
 
 pub heard-is : (c : Case) (ys : List Station) (bs : List ℕ) (b : Booking) (zs : List Station) (cs : List ℕ) (r : Reply) (zs′ : List Station) (cs′ : List ℕ)
-    → Sized ys bs → isHear (c .task) ≡ true → Sought c ys bs b zs cs → Ends (enteredOut b zs cs) r zs′ cs′ → Ends (doneOut c ys bs) r zs′ cs′
+    → Sized ys bs → isHear (c .task) ≡ true → Sought c ys bs b zs cs → Ends (announcedOut b (storedIn zs b) cs) r zs′ cs′ → Ends (doneOut c ys bs) r zs′ cs′
 unfolding hearingOf doneTask
 heard-is c ys bs b zs cs r zs′ cs′ z e s f =
-    ends-at (ap (λ l. enteredOut b l cs) (s .leaves) ∙ ap (enteredOut b ys) (s .writes)
+    ends-at (ap (λ l. announcedOut b (storedIn l b) cs) (s .leaves) ∙ ap (announcedOut b (storedIn ys b)) (s .writes)
     ∙ only-hear (λ t. (let q = hearingBy t (c .watch) in let k = recordFor ys (q .telling .source) in Noted q (fitOf q k) (atOf q k) (rowsOf q k) b)
-    → enteredOut b ys bs ≡ outOf (doneTask t (stateOf ys bs (c .watch)))) (λ x. hears-is ys bs (c .watch) x (z .register) b) (c .task) e (s .noted)) f
+    → announcedOut b (storedIn ys b) bs ≡ outOf (doneTask t (stateOf ys bs (c .watch)))) (λ x. hears-is ys bs (c .watch) x (z .register) b) (c .task) e (s .noted)) f
 
 -- ---- choosing
 
@@ -218,7 +216,7 @@ aged-fits c ys bs n =
     }
 
 -- what is done comes to the same, whatever the register where all begins anew
-pub aged-is : (t : Task) (c : Case) (ys : List Station) (bs : List ℕ)
+aged-is : (t : Task) (c : Case) (ys : List Station) (bs : List ℕ)
     → doneTask t (stateOf (map (λ (s : Station). pick (isNew t) blank (older s c)) ys) bs (c .watch)) ≡ doneTask t (aged (c .passes) (stateOf ys bs (c .watch)))
 unfolding doneTask
 aged-is t c ys bs =
@@ -240,7 +238,8 @@ later-fits c ys bs d zs cs n e lz lc =
     }
 
 pub carried-is : (c : Case) (ys : List Station) (bs : List ℕ) (d : Case) (zs : List Station) (cs : List ℕ) (r : Reply) (zs′ : List Station) (cs′ : List ℕ)
-    → Ends (passOut c ys bs) d zs cs → Ends (agedOut d zs cs) r zs′ cs′ → Ends (carriedOut c ys bs) r zs′ cs′
+    → Ends (passOut c ys bs) d zs cs → Ends (doneOut d (map (λ (s : Station). agedRecord s d) zs) cs) r zs′ cs′ → Ends (carriedOut c ys bs) r zs′ cs′
 carried-is c ys bs d zs cs r zs′ cs′ e f =
-    ends-at ((λ i. agedOut (e .answers i) (e .leaves i) (e .writes i))
-    ∙ ap (λ (s : State). outOf (doneTask (c .task) s)) (sym (passes-slid (stateOf ys bs (c .watch)) (c .passes)))) f
+    ends-at (ap outOf (aged-is (d .task) d zs cs
+    ∙ (λ i. doneTask (e .answers i .task) (aged (e .answers i .passes) (stateOf (e .leaves i) (e .writes i) (e .answers i .watch))))
+    ∙ ap (doneTask (c .task)) (sym (passes-slid (stateOf ys bs (c .watch)) (c .passes))))) f

@@ -23,7 +23,7 @@ use Rattle.register.specs.declared.Turn.{Turn}
 use Rattle.register.specs.declared.Reply.{Reply}
 use Rattle.register.specs.declared.Answer.{Answer}
 use Rattle.register.specs.declared.Answer.the-variants.{Passed, Planned, Set, Report as Reported, Refused, Begun, Sum as Summed}
-use Rattle.register.specs.State.{State, stateOf, newState, talliesIn, withHold, aged, passes}
+use Rattle.register.specs.State.{State, stateOf, newState, talliesIn, withHold, passes}
 use Rattle.register.specs.Register.{slid}
 use Rattle.register.specs.Answers.{Answered, answered, no, outOf}
 use Rattle.reporting.specs.declared.Time.{Time}
@@ -34,7 +34,7 @@ use Rattle.hearing.specs.declared.Telling.{Telling}
 use Rattle.hearing.specs.declared.Hearing.{Hearing}
 use Rattle.hearing.specs.declared.Booking.{Booking}
 use Rattle.hearing.specs.Hear.{tellingOf, recordFor, bookTests, hears}
-use Rattle.hearing.specs.Booking.{fitOf, atOf, rowsOf, Noted, storedIn, freedOut, markedOut}
+use Rattle.hearing.specs.Booking.{fitOf, atOf, rowsOf, Noted, freedOut, markedOut}
 use Rattle.choosing.specs.declared.Wanted.{Wanted}
 use Rattle.choosing.specs.declared.Query.{Query}
 use Rattle.choosing.specs.declared.own.Owning.{Owning}
@@ -156,9 +156,6 @@ pub record Sought (c : Case) (reg : List Station) (book : List ℕ) (b : Booking
 abbrev pub announcedOut : Booking → List Station → List ℕ → Out Reply
 announcedOut b reg book = let o = freedOut b reg book in markedOut (o .answer) (o .reg) (o .book)
 
-abbrev pub enteredOut : Booking → List Station → List ℕ → Out Reply
-enteredOut b reg book = announcedOut b (storedIn reg b) book
-
 -- ---- choosing
 
 abbrev pub isChoose : Task → Bool
@@ -250,9 +247,6 @@ finishBy false t c n book r book′ = restBy t c n book r book′
 
 abbrev pub doneOut : Case → List Station → List ℕ → Out Reply
 doneOut c reg book = outOf (doneTask (c .task) (stateOf reg book (c .watch)))
-
-abbrev pub agedOut : Case → List Station → List ℕ → Out Reply
-agedOut c reg book = outOf (doneTask (c .task) (aged (c .passes) (stateOf reg book (c .watch))))
 
 abbrev pub carriedOut : Case → List Station → List ℕ → Out Reply
 carriedOut c reg book = outOf (doneTask (c .task) (passes (stateOf reg book (c .watch)) (c .passes)))

@@ -14,7 +14,7 @@ ghost use Rattle.hearing.specs.Booking.{Noted, fitOf, atOf, rowsOf, Booked};
 ghost use Rattle.choosing.specs.Scanning.{judged};
 ghost use Rattle.choosing.specs.Owning.{owningOf};
 ghost use Rattle.plan.specs.Plan.{InRange};
-ghost use Rattle.calls.specs.Stages.{Sized, Fit, started, PassesOne, recased, passOut, older, isNew, agedRecord, Aged, isHear, hearingOf, Sought, announcedOut, enteredOut, isChoose, Asks, queryOf, Draws, drawnOut, noSums, SumFits, sumWith, sumsIn, Replans, reportedReply, RestNeeds, restBy, Clears, finishBy, doneOut, agedOut, carriedOut};
+ghost use Rattle.calls.specs.Stages.{Sized, Fit, started, PassesOne, recased, passOut, older, isNew, agedRecord, Aged, isHear, hearingOf, Sought, announcedOut, isChoose, Asks, queryOf, Draws, drawnOut, noSums, SumFits, sumWith, sumsIn, Replans, reportedReply, RestNeeds, restBy, Clears, finishBy, doneOut, carriedOut};
 use crate::told::Case;
 use crate::told::Task;
 use crate::told::with_ship;
@@ -234,20 +234,13 @@ fn announce(reg: &mut [Station], book: &mut [u16], b: Booking) -> Reply
     mark_times(reg, book, freed)
 }
 
-fn enter(reg: &mut [Station], book: &mut [u16], b: Booking) -> Reply
-    requires { ⌜ Booked (now reg) (now book) b ⌝ }
-    ensures { λ r. ⌜ Ends (enteredOut b (now (reg .entry)) (now (book .entry))) r (now (reg .exit)) (now (book .exit)) ⌝ }
-{
-    store(reg, b);
-    announce(reg, book, b)
-}
-
 fn hear(reg: &mut [Station], book: &mut [u16], c: Case) -> Reply
     requires { ⌜ Fit (now reg) (now book) c × (isHear (c .task) ≡ true) ⌝ }
     ensures { λ r. ⌜ Ends (doneOut c (now (reg .entry)) (now (book .entry))) r (now (reg .exit)) (now (book .exit)) ⌝ }
 {
     let b = seek(reg, book, c);
-    enter(reg, book, b)
+    store(reg, b);
+    announce(reg, book, b)
 }
 
 // ---- choosing
@@ -470,19 +463,12 @@ fn answer(reg: &mut [Station], book: &mut [u16], c: Case) -> Reply
     choose_or_rest(reg, book, c)
 }
 
-fn age_and_answer(reg: &mut [Station], book: &mut [u16], c: Case) -> Reply
-    requires { ⌜ Fit (now reg) (now book) c ⌝ }
-    ensures { λ r. ⌜ Ends (agedOut c (now (reg .entry)) (now (book .entry))) r (now (reg .exit)) (now (book .exit)) ⌝ }
-{
-    age(reg, c);
-    answer(reg, book, c)
-}
-
-// The slots pass, and the rest is done.
+// The slots pass, the records grow older, and the rest is done.
 pub fn carry(reg: &mut [Station], book: &mut [u16], c: Case) -> Reply
     requires { ⌜ Fit (now reg) (now book) c ⌝ }
     ensures { λ r. ⌜ Ends (carriedOut c (now (reg .entry)) (now (book .entry))) r (now (reg .exit)) (now (book .exit)) ⌝ }
 {
     let later = pass_slots(reg, book, c);
-    age_and_answer(reg, book, later)
+    age(reg, later);
+    answer(reg, book, later)
 }

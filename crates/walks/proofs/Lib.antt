@@ -26,7 +26,7 @@ pub mod Seconds
 pub mod Stage
 pub mod Then
 pub mod Either
-pub mod First
+pub mod Between
 pub mod Leaf
 pub mod Reading
 pub mod Seen
