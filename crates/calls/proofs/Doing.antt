@@ -17,6 +17,7 @@ use Rattle.laws.specs.Loops.{upto}
 use Rattle.laws.proofs.Tests.{never, by-test, both-left, both-right, pick-of, pick-has}
 use Rattle.laws.proofs.Upto.{upto-keeps}
 use Rattle.limits.specs.Limits.{slotTimes, records}
+use Rattle.numbers.specs.declared.Refusal.{Refusal}
 use Rattle.numbers.specs.declared.Refusal.the-variants.{OtherLength, BadSource, Repeated, OutOfRange, NoPlan}
 use Rattle.message.specs.declared.Received.{Received}
 use Rattle.message.specs.declared.Received.the-variants.{Message as Got, Refused as NotRead}
@@ -34,12 +35,9 @@ use Rattle.walks.specs.Out.{out}
 use Rattle.register.specs.State.{State, stateOf, bookIn, withHold, tallied, settle, passed, passes}
 use Rattle.register.specs.Answers.{Answered, no, outOf, sized}
 use Rattle.register.proofs.Settling.{tallied-length}
-use Rattle.reporting.specs.declared.Time.{Time}
 use Rattle.reporting.specs.Report.{timeFits}
-use Rattle.hearing.specs.declared.Telling.{Telling as Heard}
 use Rattle.hearing.specs.Station.{fairOther}
 use Rattle.hearing.specs.Hear.{tellingOf, tellingIn, hearTests, hear}
-use Rattle.choosing.specs.declared.Wanted.{Wanted}
 use Rattle.choosing.specs.Choosing.{askFits}
 use Rattle.choosing.specs.Choose.{chooseTests, choose}
 use Rattle.calls.specs.declared.Ask.{Ask}
@@ -77,76 +75,38 @@ through f [] x = refl
 through f ((true, y) ∷ ts) x = through f ts x
 through f ((false, y) ∷ ts) x = refl
 
+-- a task that is left where each test holds, and else refused
+abbrev refusing : List (Bool × Refusal) → Task → Task
+refusing ts t = ladder (map (λ (x : Bool × Refusal). (x .0, task.Refused (x .1))) ts) t
+
 module _ (s : State) where
-  -- what is done, by what is left to be done
-  abbrev does : Task → Answered
-  does t = doneTask t s
-
-  fit-does : (t : Task) → ladder ((sized s, no s OtherLength) ∷ []) (does t) ≡ does (fitTask (sized s) t)
-  unfolding doneTask fitTask
-  fit-does t = sym (through does ((sized s, task.Refused OtherLength) ∷ []) t)
-
-  pass-does : pass s ≡ does (fitTask (sized s) task.Nothing)
-  unfolding doneTask pass
-  pass-does = fit-does task.Nothing
-
-  begin-does : begin s ≡ does (fitTask (sized s) task.New)
-  unfolding doneTask begin
-  begin-does = fit-does task.New
-
-  sum-does : sum s ≡ does (fitTask (sized s) task.Sum)
-  unfolding doneTask sum
-  sum-does = fit-does task.Sum
-
-  plan-does : (p : Plans) → plan s p ≡ does (planTask (sized s) p)
-  unfolding doneTask plan planTask
-  plan-does p =
-      sym (through does ((sized s, task.Refused OtherLength) ∷ (planFits (p .rate) (p .start), task.Refused OutOfRange) ∷ []) (task.Plan p))
-
-  own-does : (o : Ship) → own s o ≡ does (ownTask o)
-  unfolding doneTask own ownTask ownAnswer sourceTests
-  own-does o = sym (through (λ r. does (ownedTask r)) (sourceTests (o .source) (o .latitude) (o .longitude)) (Owns o))
-
-  choose-does : (a : Wanted) → choose s a ≡ does (chooseTask (sized s) (s .watch .channel .plan) a)
-  unfolding doneTask choose chooseTests chooseTask
-  choose-does a =
-      let p = s .watch .channel .plan in
-      sym (through does ((sized s, task.Refused OtherLength) ∷ (planFits (p .rate) (p .start), task.Refused NoPlan) ∷ (askFits p a, task.Refused OutOfRange) ∷ [])
-      (task.Choose a))
-
-  report-does : (t : Time) → report s t ≡ does (reportTask (sized s) (s .watch .channel .plan) t)
-  unfolding doneTask report reportTask
-  report-does t =
-      let p = s .watch .channel .plan in
-      sym (through does ((sized s, task.Refused OtherLength) ∷ (planFits (p .rate) (p .start), task.Refused NoPlan) ∷ (timeFits t, task.Refused OutOfRange) ∷ [])
-      (task.Report t))
-
-  -- a message that could be read, and what its reading comes to
-  telling-does : (x : Heard) → ladder ((sized s, no s OtherLength) ∷ (fairOther (x .source) (s .watch .ship .source), no s BadSource) ∷ (eqb (x .repeat) 0, no s Repeated) ∷ []) (does (task.Hear x))
-      ≡ does (tellingTask (sized s) (s .watch .ship .source) x)
-  unfolding doneTask tellingTask
-  telling-does x =
-      sym (through does ((sized s, task.Refused OtherLength) ∷ (fairOther (x .source) (s .watch .ship .source), task.Refused BadSource) ∷ (eqb (x .repeat) 0, task.Refused Repeated) ∷ [])
-      (task.Hear x))
+  refusing-does : (ts : List (Bool × Refusal)) (t : Task) → ladder (map (λ (x : Bool × Refusal). (x .0, no s (x .1))) ts) (doneTask t s) ≡ doneTask (refusing ts t) s
+  unfolding doneTask
+  refusing-does [] t = refl
+  refusing-does ((true, r) ∷ ts) t = refusing-does ts t
+  refusing-does ((false, r) ∷ ts) t = refl
 
   abbrev reads : Received → Answered
-  reads r = does (receivedTask (sized s) (s .watch .ship .source) r)
-
-  hear-does : (bytes : List ℕ) → hear s bytes ≡ does (heardTask (sized s) (s .watch .ship .source) bytes)
-  unfolding doneTask hear hearTests heardTask readAnswer readTests
-  hear-does bytes =
-      let ts : List (Bool × Answered) = map (λ (t : Bool × Received). (t .0, reads (t .1))) (readTests bytes) in
-      ap (ladder ts) (telling-does (tellingIn bytes)) ∙ sym (through reads (readTests bytes) (Got (messageOf bytes)))
+  reads r = doneTask (receivedTask (sized s) (s .watch .ship .source) r) s
 
 pub done-is : (q : What) (s : State) (bytes : List ℕ) → done q s bytes ≡ doneTask (taskOf (sized s) (s .watch) bytes q) s
-done-is Nothing s bytes = pass-does s
-done-is Hear s bytes = hear-does s bytes
-done-is (ToPlan p) s bytes = plan-does s p
-done-is (Own o) s bytes = own-does s o
-done-is (Choose a) s bytes = choose-does s a
-done-is (Report t) s bytes = report-does s t
-done-is New s bytes = begin-does s
-done-is Sum s bytes = sum-does s
+unfolding doneTask pass begin sum fitTask plan planTask own ownTask ownAnswer sourceTests choose chooseTests chooseTask report reportTask hear hearTests heardTask tellingTask readAnswer readTests
+done-is Nothing s bytes = refusing-does s ((sized s, OtherLength) ∷ []) task.Nothing
+done-is Hear s bytes =
+    let x = tellingIn bytes in
+    ap (ladder (map (λ (t : Bool × Received). (t .0, reads s (t .1))) (readTests bytes)))
+    (refusing-does s ((sized s, OtherLength) ∷ (fairOther (x .source) (s .watch .ship .source), BadSource) ∷ (eqb (x .repeat) 0, Repeated) ∷ []) (task.Hear x))
+    ∙ sym (through (reads s) (readTests bytes) (Got (messageOf bytes)))
+done-is (ToPlan p) s bytes = refusing-does s ((sized s, OtherLength) ∷ (planFits (p .rate) (p .start), OutOfRange) ∷ []) (task.Plan p)
+done-is (Own o) s bytes = sym (through (λ r. doneTask (ownedTask r) s) (sourceTests (o .source) (o .latitude) (o .longitude)) (Owns o))
+done-is (Choose a) s bytes =
+    let p = s .watch .channel .plan in
+    refusing-does s ((sized s, OtherLength) ∷ (planFits (p .rate) (p .start), NoPlan) ∷ (askFits p a, OutOfRange) ∷ []) (task.Choose a)
+done-is (Report t) s bytes =
+    let p = s .watch .channel .plan in
+    refusing-does s ((sized s, OtherLength) ∷ (planFits (p .rate) (p .start), NoPlan) ∷ (timeFits t, OutOfRange) ∷ []) (task.Report t)
+done-is New s bytes = refusing-does s ((sized s, OtherLength) ∷ []) task.New
+done-is Sum s bytes = refusing-does s ((sized s, OtherLength) ∷ []) task.Sum
 
 -- ---- lengths, and slots that pass
 
@@ -282,50 +242,40 @@ not-needed w bytes (Report t) = refl
 not-needed w bytes New = refl
 not-needed w bytes Sum = refl
 
+abbrev All : List (Bool × Refusal) → Type 0
+All [] = Unit {0}
+All ((b, r) ∷ ts) = (b ≡ true) × All ts
+
+fits-refusing : (p : Plans) (ts : List (Bool × Refusal)) (t : Task) → (All ts → FitTask t p) → FitTask (refusing ts t) p
+fits-refusing p [] t h = h tt
+fits-refusing p ((true, r) ∷ ts) t h = fits-refusing p ts t (λ a. h (refl, a))
+fits-refusing p ((false, r) ∷ ts) t h = tt
+
 -- a choice and a report are left to be done only where their tests hold
 fits-task : (fits : Bool) (w : Watch) (bytes : List ℕ) (q : What) → FitTask (taskOf fits w bytes q) (w .channel .plan)
 unfolding fitTask heardTask tellingTask planTask ownTask chooseTask reportTask
-fits-task fits w bytes Nothing = pick-has (λ (t : Task). FitTask t (w .channel .plan)) fits task.Nothing (task.Refused OtherLength) tt tt
+fits-task fits w bytes Nothing = fits-refusing (w .channel .plan) ((fits, OtherLength) ∷ []) task.Nothing (λ a. tt)
 fits-task fits w bytes Hear = by (readAnswer bytes)
   where
-    told : (x : Heard) (a b c : Bool) → FitTask (ladder ((a, task.Refused OtherLength) ∷ (b, task.Refused BadSource) ∷ (c, task.Refused Repeated) ∷ []) (task.Hear x)) (w .channel .plan)
-    told x false b c = tt
-    told x true false c = tt
-    told x true true false = tt
-    told x true true true = tt
-
     by : (r : Received) → FitTask (receivedTask fits (w .ship .source) r) (w .channel .plan)
-    by (Got m) = told (tellingOf m) fits (fairOther (tellingOf m .source) (w .ship .source)) (eqb (tellingOf m .repeat) 0)
+    by (Got m) =
+        let x = tellingOf m in
+        fits-refusing (w .channel .plan) ((fits, OtherLength) ∷ (fairOther (x .source) (w .ship .source), BadSource) ∷ (eqb (x .repeat) 0, Repeated) ∷ []) (task.Hear x) (λ a. tt)
     by (NotRead r) = tt
-fits-task fits w bytes (ToPlan p) = by fits (planFits (p .rate) (p .start))
-  where
-    by : (a b : Bool) → FitTask (ladder ((a, task.Refused OtherLength) ∷ (b, task.Refused OutOfRange) ∷ []) (task.Plan p)) (w .channel .plan)
-    by false b = tt
-    by true false = tt
-    by true true = tt
+fits-task fits w bytes (ToPlan p) = fits-refusing (w .channel .plan) ((fits, OtherLength) ∷ (planFits (p .rate) (p .start), OutOfRange) ∷ []) (task.Plan p) (λ a. tt)
 fits-task fits w bytes (Own o) = by (ownAnswer (o .source) (o .latitude) (o .longitude))
   where
     by : (r : Owned) → FitTask (ownedTask r) (w .channel .plan)
     by (Owns t) = tt
     by (NotOwned r) = tt
-fits-task fits w bytes (Choose x) = let p = w .channel .plan in by fits (planFits (p .rate) (p .start)) (askFits p x) refl refl
-  where
-    by : (a b c : Bool) → planFits (w .channel .plan .rate) (w .channel .plan .start) ≡ b → askFits (w .channel .plan) x ≡ c
-        → FitTask (ladder ((a, task.Refused OtherLength) ∷ (b, task.Refused NoPlan) ∷ (c, task.Refused OutOfRange) ∷ []) (task.Choose x)) (w .channel .plan)
-    by false b c e f = tt
-    by true false c e f = tt
-    by true true false e f = tt
-    by true true true e f = (e, f)
-fits-task fits w bytes (Report t) = let p = w .channel .plan in by fits (planFits (p .rate) (p .start)) (timeFits t) refl
-  where
-    by : (a b c : Bool) → planFits (w .channel .plan .rate) (w .channel .plan .start) ≡ b
-        → FitTask (ladder ((a, task.Refused OtherLength) ∷ (b, task.Refused NoPlan) ∷ (c, task.Refused OutOfRange) ∷ []) (task.Report t)) (w .channel .plan)
-    by false b c e = tt
-    by true false c e = tt
-    by true true false e = tt
-    by true true true e = e
-fits-task fits w bytes New = pick-has (λ (t : Task). FitTask t (w .channel .plan)) fits task.New (task.Refused OtherLength) tt tt
-fits-task fits w bytes Sum = pick-has (λ (t : Task). FitTask t (w .channel .plan)) fits task.Sum (task.Refused OtherLength) tt tt
+fits-task fits w bytes (Choose x) =
+    let p = w .channel .plan in
+    fits-refusing p ((fits, OtherLength) ∷ (planFits (p .rate) (p .start), NoPlan) ∷ (askFits p x, OutOfRange) ∷ []) (task.Choose x) (λ a. (a .1 .0, a .1 .1 .0))
+fits-task fits w bytes (Report t) =
+    let p = w .channel .plan in
+    fits-refusing p ((fits, OtherLength) ∷ (planFits (p .rate) (p .start), NoPlan) ∷ (timeFits t, OutOfRange) ∷ []) (task.Report t) (λ a. a .1 .0)
+fits-task fits w bytes New = fits-refusing (w .channel .plan) ((fits, OtherLength) ∷ []) task.New (λ a. tt)
+fits-task fits w bytes Sum = fits-refusing (w .channel .plan) ((fits, OtherLength) ∷ []) task.Sum (λ a. tt)
 
 module _ (reg : List Station) (book : List ℕ) (bytes : List ℕ) (x : Ask) where
   -- the case, and the one of two that it is
