@@ -443,16 +443,6 @@ fn rest(reg: &mut [Station], book: &mut [u16], c: Case) -> Reply
 
 // ---- what is left to be done
 
-fn choose_or_rest(reg: &mut [Station], book: &mut [u16], c: Case) -> Reply
-    requires { ⌜ Aged (now reg) (now book) c × (isHear (c .task) ≡ false) ⌝ }
-    ensures { λ r. ⌜ Ends (doneOut c (now (reg .entry)) (now (book .entry))) r (now (reg .exit)) (now (book .exit)) ⌝ }
-{
-    if is_choose(c) {
-        return choose(reg, book, c);
-    }
-    rest(reg, book, c)
-}
-
 fn answer(reg: &mut [Station], book: &mut [u16], c: Case) -> Reply
     requires { ⌜ Aged (now reg) (now book) c ⌝ }
     ensures { λ r. ⌜ Ends (doneOut c (now (reg .entry)) (now (book .entry))) r (now (reg .exit)) (now (book .exit)) ⌝ }
@@ -460,7 +450,10 @@ fn answer(reg: &mut [Station], book: &mut [u16], c: Case) -> Reply
     if is_hear(c) {
         return hear(reg, book, c);
     }
-    choose_or_rest(reg, book, c)
+    if is_choose(c) {
+        return choose(reg, book, c);
+    }
+    rest(reg, book, c)
 }
 
 // The slots pass, the records grow older, and the rest is done.

@@ -25,7 +25,7 @@ pub mod Seeking
 pub mod Seconds
 pub mod Stage
 pub mod Then
-pub mod Either
+pub mod Ways
 pub mod Between
 pub mod Leaf
 pub mod Reading
