@@ -5,13 +5,5 @@ use Rattle.calls.proofs.Covered.{not-choose}
 use Rattle.calls.proofs.stages.is_choose.Statement.{statement}
 use Rattle.calls.proofs.stages.is_choose.Tie as tie
 
-returns-2 : tie.Need-returns-2
-returns-2 c = not-choose (c .before .args .c .task) (c .match .keys2)
-
 pub is-choose-spec : {M : Type 1} → statement M
-is-choose-spec =
-    tie.close
-    (tie.spec
-    (λ c. search needs)
-    (λ c. search needs)
-    returns-2)
+is-choose-spec = tie.close (tie.spec (λ c. search needs) (λ c. search needs) (λ c. rw (not-choose _ _ _ (c .match .keys2))))

@@ -5,13 +5,5 @@ use Rattle.calls.proofs.Covered.{not-hear}
 use Rattle.calls.proofs.stages.is_hear.Statement.{statement}
 use Rattle.calls.proofs.stages.is_hear.Tie as tie
 
-returns-2 : tie.Need-returns-2
-returns-2 c = not-hear (c .before .args .c .task) (c .match .keys2)
-
 pub is-hear-spec : {M : Type 1} → statement M
-is-hear-spec =
-    tie.close
-    (tie.spec
-    (λ c. search needs)
-    (λ c. search needs)
-    returns-2)
+is-hear-spec = tie.close (tie.spec (λ c. search needs) (λ c. search needs) (λ c. rw (not-hear _ _ _ (c .match .keys2))))

@@ -4,7 +4,7 @@ use native.Mathlib.Omega.{arith}
 use lib.Dec.{ltb}
 use borrow.Author.Needs.{needs}
 use Rattle.laws.proofs.Sums.{one-le}
-use Rattle.calls.proofs.Covered.{sum-adds}
+use Rattle.calls.specs.Stages.{sumWith}
 use Rattle.calls.proofs.stages.sum_with.Statement.{statement}
 use Rattle.calls.proofs.stages.sum_with.Tie as tie
 
@@ -12,17 +12,9 @@ use Rattle.calls.proofs.stages.sum_with.Tie as tie
 add-t6 : tie.Need-add-t6
 add-t6 c = omega (arith, c .before .heard-bit .ensures, one-le (ltb 0 (c .before .before .args .s .tally)))
 
-returns : tie.Need-returns
-returns c =
-    let a = c .before .before .before .before .args in
-    sum-adds (a .n) (a .s) _ _ (c .before .before .before .heard-bit .ensures) (c .before .wide .ensures .0)
-
 pub sum-with-spec : {M : Type 1} → statement M
+unfolding sumWith
 sum-with-spec =
     tie.close
-    (tie.spec
-    (λ c κs. search needs)
-    add-t6
-    (λ c κs. search needs)
-    (λ c. search needs)
-    returns)
+    (tie.spec (λ c κs. search needs) add-t6 (λ c κs. search needs) (λ c. search needs)
+    (λ c. rw (c .before .before .before .heard-bit .ensures, c .before .wide .ensures .0)))
