@@ -37,7 +37,6 @@ use Rattle.hearing.proofs.Joined.{freed-booked}
 use Rattle.hearing.proofs.Hears.{hears-is}
 use Rattle.choosing.specs.declared.Wanted.{Wanted}
 use Rattle.choosing.specs.declared.own.Owning.{Owning}
-use Rattle.choosing.specs.Choosing.{windowOf}
 use Rattle.choosing.specs.Scanning.{asked, scanned, judged}
 use Rattle.choosing.specs.Owning.{owningOf, Owns, ownedOut}
 use Rattle.choosing.proofs.Meaning.{near, narrow, timed}
@@ -126,14 +125,6 @@ drawn-fits c ys bs n e =
     only-choose (λ t. FitTask t (c .watch .channel .plan) → Draws bs (queryBy t bs (c .watch)))
     (λ a f. asked-draws bs (c .watch) a (n .sized .size) (window-there (c .watch .channel .plan) a (f .1) .1)) (c .task) e (n .fits)
 
-asked-watch : (bs : List ℕ) (w : Watch) (a : Wanted) → asked bs w a .watch ≡ w
-unfolding asked
-asked-watch bs w a = refl
-
-asked-window : (bs : List ℕ) (w : Watch) (a : Wanted) → asked bs w a .window ≡ windowOf w a
-unfolding asked
-asked-window bs w a = refl
-
 pub owns-fits : (c : Case) (ys : List Station) (bs : List ℕ) (o : Owning) (zs : List Station) (cs : List ℕ) → Sized ys bs → Ends (drawnOut c ys bs) o zs cs → Owns zs cs o
 owns-fits c ys bs o zs cs z e =
     let q = queryOf bs c in
@@ -141,13 +132,13 @@ owns-fits c ys bs o zs cs z e =
 
 pub chosen-is : (c : Case) (ys : List Station) (bs : List ℕ) (o : Owning) (zs : List Station) (cs : List ℕ) (r : Reply) (zs′ : List Station) (cs′ : List ℕ)
     → Fit ys bs c → isChoose (c .task) ≡ true → Ends (drawnOut c ys bs) o zs cs → Ends (ownedOut o zs cs) r zs′ cs′ → Ends (doneOut c ys bs) r zs′ cs′
-unfolding queryOf doneTask
+unfolding queryOf doneTask asked
 chosen-is c ys bs o zs cs r zs′ cs′ n e d f =
     let w = c .watch in
     ends-at ((λ i. ownedOut (d .answers i) (d .leaves i) (d .writes i)) ∙ only-choose (λ t. FitTask t (w .channel .plan)
     → (let q = queryBy t bs w in ownedOut (owningOf q (judged bs q (scanned ys bs q))) ys bs) ≡ outOf (doneTask t (stateOf ys bs w)))
     (λ a g. ap (λ p. ownedOut (owningOf (asked bs w a) p) ys bs) (finds-the-choice ys bs w a (window-there (w .channel .plan) a (g .1) .1))
-    ∙ chooses-is ys bs w a (asked bs w a) (asked-watch bs w a) (asked-window bs w a)) (c .task) e (n .fits)) f
+    ∙ chooses-is ys bs w a (asked bs w a) refl refl) (c .task) e (n .fits)) f
 
 -- ---- the rest
 
@@ -230,7 +221,6 @@ slid-plan s n = upto-keeps (λ (x : State) (i : ℕ). slidOne x) s (λ (x : Stat
 pub later-fits : (c : Case) (ys : List Station) (bs : List ℕ) (d : Case) (zs : List Station) (cs : List ℕ) → Fit ys bs c → Ends (passOut c ys bs) d zs cs
     → length zs ≡ length ys → length cs ≡ length bs → Fit zs cs d
 later-fits c ys bs d zs cs n e lz lc =
-    let s = slid (stateOf ys bs (c .watch)) (c .passes) in
     record {
       sized = record { register = lz ∙ n .sized .register; size = lc ∙ n .sized .size };
       fits = subst (λ (x : Case). FitTask (x .task) (x .watch .channel .plan)) (sym (e .answers))

@@ -194,8 +194,7 @@ fn is_hear(c: Case) -> bool
     }
 }
 
-fn hearing_of(book: &[u16], c: Case) -> Hearing
-    requires { ⌜ length (now book) ≡ slotTimes ⌝ }
+fn hearing_of(c: Case) -> Hearing
     ensures { λ r. ⌜ r ≡ hearingOf c ⌝ }
 {
     let watch = c.watch;
@@ -221,7 +220,7 @@ fn seek(reg: &mut [Station], book: &mut [u16], c: Case) -> Booking
     requires { ⌜ Sized (now reg) (now book) ⌝ }
     ensures { λ r. ⌜ Sought c (now (reg .entry)) (now (book .entry)) r (now (reg .exit)) (now (book .exit)) ⌝ }
 {
-    let q = hearing_of(book, c);
+    let q = hearing_of(c);
     let k = find(reg, q);
     note(book, q, k)
 }
@@ -352,8 +351,7 @@ fn sum_all(reg: &[Station], c: Case) -> Sums
     n
 }
 
-fn same(book: &[u16], c: Case) -> Case
-    requires { ⌜ length (now book) ≡ slotTimes ⌝ }
+fn same(c: Case) -> Case
     ensures { λ r. ⌜ r ≡ c ⌝ }
 {
     c
@@ -436,7 +434,7 @@ fn rest(reg: &mut [Station], book: &mut [u16], c: Case) -> Reply
     requires { ⌜ Aged (now reg) (now book) c × (isHear (c .task) ≡ false) × (isChoose (c .task) ≡ false) ⌝ }
     ensures { λ r. ⌜ Ends (doneOut c (now (reg .entry)) (now (book .entry))) r (now (reg .exit)) (now (book .exit)) ⌝ }
 {
-    let d = same(book, c);
+    let d = same(c);
     let n = sum_all(reg, d);
     finish(book, d, n)
 }

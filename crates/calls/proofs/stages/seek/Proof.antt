@@ -23,10 +23,10 @@ unfolding code.routine tablesOf
 seek-spec 𝓤 H 𝓜 𝓖 𝓡 =
     entered 𝓤 H _ (tables 𝓤 H 𝓜 𝓡 code.env .C) (tables 𝓤 H 𝓜 𝓡 code.env .Λ) f.Key.name code.function (code.unfolded 𝓤 H 𝓜 𝓡)
     (meets CaseD CaseL HearingD HearingL (number w64) (number-law w64) BookingD BookingL
-    (λ bs c. length bs ≡ slotTimes) (λ bs c. hearingOf c) (λ ys q. length ys ≡ records) (λ ys q. recordFor ys (q .telling .source))
+    hearingOf (λ ys q. length ys ≡ records) (λ ys q. recordFor ys (q .telling .source))
     (λ bs q k. length bs ≡ slotTimes)
     (λ bs q k r cs. Noted q (fitOf q k) (atOf q k) (rowsOf q k) r × (cs ≡ bs)) (λ ys bs c. Sized ys bs) Sought
-    (λ ys bs c n. n .size) (λ ys bs c n. n .register) (λ ys bs c n. n .size)
+    (λ ys bs c n. n .register) (λ ys bs c n. n .size)
     (λ ys bs c r cs n e lc. record { noted = e .0; leaves = refl; writes = e .1 }) first.Symbol.name look.Symbol.name last.Symbol.name
     𝓤 H (𝓖 .A) (givenOf 𝓤 H 𝓜 𝓖) (tablesOf 𝓤 H 𝓜 (tables 𝓤 H 𝓜 𝓡 code.env))
     (cited 𝓤 H _ 𝓜 𝓡 code.env first.Symbol.name _ code.calls-calls·stages·hearing-of (first.Met.met 𝓤 H 𝓜 𝓖 𝓡))
