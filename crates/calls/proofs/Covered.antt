@@ -98,14 +98,14 @@ fit-report t p x e h = in-range p (rw e at h)
 
 -- ---- what is left where nothing is left
 
-pub rest-other : (t : Task) (c : Case) (n : Sums) (book : List ℕ) (r : Reply) (book′ : List ℕ) → OneOf (1 ∷ 2 ∷ 5 ∷ 7 ∷ []) (tagOf the-type t)
+pub rest-other : (t : Task) (c : Case) (n : Sums) (book : List ℕ) (r : Reply) (book′ : List ℕ) → OneOf (1 ∷ 2 ∷ 5 ∷ []) (tagOf the-type t)
     → Stays (c .watch) answer.Passed book r book′ → restBy t c n book r book′
-rest-other (task.Refused x) c n book r book′ o h = absurd (miss (1 ∷ 2 ∷ 5 ∷ 7 ∷ []) 0 tt o)
+rest-other (task.Refused x) c n book r book′ o h = absurd (miss (1 ∷ 2 ∷ 5 ∷ []) 0 tt o)
 rest-other task.Nothing c n book r book′ o h = h
 rest-other (task.Hear x) c n book r book′ o h = h
-rest-other (task.Plan p) c n book r book′ o h = absurd (miss (1 ∷ 2 ∷ 5 ∷ 7 ∷ []) 3 tt o)
-rest-other (task.Own s) c n book r book′ o h = absurd (miss (1 ∷ 2 ∷ 5 ∷ 7 ∷ []) 4 tt o)
+rest-other (task.Plan p) c n book r book′ o h = absurd (miss (1 ∷ 2 ∷ 5 ∷ []) 3 tt o)
+rest-other (task.Own s) c n book r book′ o h = absurd (miss (1 ∷ 2 ∷ 5 ∷ []) 4 tt o)
 rest-other (task.Choose a) c n book r book′ o h = h
-rest-other (task.Report x) c n book r book′ o h = absurd (miss (1 ∷ 2 ∷ 5 ∷ 7 ∷ []) 6 tt o)
-rest-other task.New c n book r book′ o h = h
-rest-other task.Sum c n book r book′ o h = absurd (miss (1 ∷ 2 ∷ 5 ∷ 7 ∷ []) 8 tt o)
+rest-other (task.Report x) c n book r book′ o h = absurd (miss (1 ∷ 2 ∷ 5 ∷ []) 6 tt o)
+rest-other task.New c n book r book′ o h = absurd (miss (1 ∷ 2 ∷ 5 ∷ []) 7 tt o)
+rest-other task.Sum c n book r book′ o h = absurd (miss (1 ∷ 2 ∷ 5 ∷ []) 8 tt o)

@@ -46,7 +46,7 @@ use Rattle.calls.specs.declared.told.Task.{Task}
 use Rattle.calls.specs.declared.told.Task.the-variants as task
 use Rattle.calls.specs.declared.told.Case.{Case}
 use Rattle.calls.specs.Calls.{planned, reports}
-use Rattle.calls.specs.Stages.{doneTask, Sized, FitTask, Fit, passOut, older, isNew, agedRecord, Aged, isHear, hearingBy, hearingOf, Sought, announcedOut, isChoose, queryBy, queryOf, Draws, drawnOut, sumsIn, Replans, RestNeeds, finishBy, reportAnswer, reportedReply, doneOut, carriedOut}
+use Rattle.calls.specs.Stages.{doneTask, Sized, FitTask, Fit, passOut, older, isNew, agedRecord, Aged, isHear, hearingBy, hearingOf, Sought, announcedOut, isChoose, queryBy, queryOf, Draws, drawnOut, sumsIn, Replans, RestNeeds, restBy, reportAnswer, reportedReply, doneOut, carriedOut}
 use Rattle.calls.proofs.Covered.{window-there}
 
 -- where two functions say what they leave, both one after the other leave this
@@ -181,7 +181,7 @@ report-comes w t ys bs = go (ownAt bs (w .present) 0)
     go false = refl
 
 pub rest-comes : (t : Task) (c : Case) (ys : List Station) (bs : List ℕ) (r : Reply) (cs : List ℕ) → isHear t ≡ false → isChoose t ≡ false → Sized ys bs
-    → (isNew t ≡ true → ys ≡ replicate records blank) → finishBy (isNew t) t c (sumsIn ys) bs r cs → Ends (outOf (doneTask t (stateOf ys bs (c .watch)))) r ys cs
+    → (isNew t ≡ true → ys ≡ replicate records blank) → restBy t c (sumsIn ys) bs r cs → Ends (outOf (doneTask t (stateOf ys bs (c .watch)))) r ys cs
 unfolding doneTask sumsIn newState
 rest-comes (task.Refused x) c ys bs r cs h a z n f = record { answers = f .0; leaves = refl; writes = f .1 }
 rest-comes task.Nothing c ys bs r cs h a z n f = record { answers = f .0; leaves = refl; writes = f .1 }

@@ -223,6 +223,10 @@ pub record RestNeeds (book : List ℕ) (c : Case) (n : Sums) : Type 0 where
 abbrev pub Stays : Watch → Answer → List ℕ → Reply → List ℕ → Type 0
 Stays w a book r book′ = (r ≡ record { watch = w; answer = a }) × (book′ ≡ book)
 
+-- a new book and watch
+abbrev pub Clears : List ℕ → Reply → List ℕ → Type 0
+Clears book r book′ = (r ≡ record { watch = newWatch; answer = Begun }) × (book′ ≡ replicate (length book) 0)
+
 abbrev pub restBy : Task → Case → Sums → List ℕ → Reply → List ℕ → Type 0
 restBy (task.Refused x) c n book r book′ = Stays (c .watch) (Refused x) book r book′
 restBy task.Nothing c n book r book′ = Stays (c .watch) Passed book r book′
@@ -232,16 +236,8 @@ restBy (task.Own o) c n book r book′ =
     Stays (record { present = c .watch .present; channel = c .watch .channel; ship = o }) Set book r book′
 restBy (task.Choose a) c n book r book′ = Stays (c .watch) Passed book r book′
 restBy (task.Report t) c n book r book′ = (r ≡ reportedReply book (c .watch) n t) × (book′ ≡ book)
-restBy task.New c n book r book′ = Stays (c .watch) Passed book r book′
+restBy task.New c n book r book′ = Clears book r book′
 restBy task.Sum c n book r book′ = Stays (c .watch) (Summed (n .total)) book r book′
-
-abbrev pub Clears : List ℕ → Reply → List ℕ → Type 0
-Clears book r book′ = (r ≡ record { watch = newWatch; answer = Begun }) × (book′ ≡ replicate (length book) 0)
-
--- all begins anew, or it does not
-abbrev pub finishBy : Bool → Task → Case → Sums → List ℕ → Reply → List ℕ → Type 0
-finishBy true t c n book r book′ = Clears book r book′
-finishBy false t c n book r book′ = restBy t c n book r book′
 
 -- ---- all of it
 

@@ -14,7 +14,7 @@ ghost use Rattle.hearing.specs.Booking.{Noted, fitOf, atOf, rowsOf, Booked};
 ghost use Rattle.choosing.specs.Scanning.{judged};
 ghost use Rattle.choosing.specs.Owning.{owningOf};
 ghost use Rattle.plan.specs.Plan.{InRange};
-ghost use Rattle.calls.specs.Stages.{Sized, Fit, started, PassesOne, recased, passOut, older, isNew, agedRecord, Aged, isHear, hearingOf, Sought, announcedOut, isChoose, Asks, queryOf, Draws, drawnOut, noSums, SumFits, sumWith, sumsIn, Replans, reportedReply, RestNeeds, restBy, Clears, finishBy, doneOut, carriedOut};
+ghost use Rattle.calls.specs.Stages.{Sized, Fit, started, PassesOne, recased, passOut, older, isNew, agedRecord, Aged, isHear, hearingOf, Sought, announcedOut, isChoose, Asks, queryOf, Draws, drawnOut, noSums, SumFits, sumWith, sumsIn, Replans, reportedReply, RestNeeds, restBy, Clears, doneOut, carriedOut};
 use crate::told::Case;
 use crate::told::Task;
 use crate::told::with_ship;
@@ -161,7 +161,7 @@ fn is_new(c: Case) -> bool
     }
 }
 
-// A record once the slots have passed: blank, where all begins anew.
+// A record once the slots have passed: blank, where register and book begin anew.
 fn aged(s: Station, c: Case) -> Station
     ensures { λ r. ⌜ r ≡ agedRecord s c ⌝ }
 {
@@ -392,6 +392,15 @@ fn reported(book: &[u16], watch: Watch, n: Sums, t: Time) -> Reply
     }
 }
 
+// An empty book, and the first watch. The records are blank already.
+fn cleared(book: &mut [u16]) -> Reply
+    ensures { λ r. ⌜ Clears (now (book .entry)) r (now (book .exit)) ⌝ }
+{
+    clear(book);
+    let watch = new_watch();
+    reply(watch, Answer::Begun)
+}
+
 fn rest_of(book: &mut [u16], c: Case, n: Sums) -> Reply
     requires { ⌜ RestNeeds (now book) c n ⌝ }
     ensures { λ r. ⌜ restBy (c .task) c n (now (book .entry)) r (now (book .exit)) ⌝ }
@@ -406,28 +415,10 @@ fn rest_of(book: &mut [u16], c: Case, n: Sums) -> Reply
             reply(set, Answer::Set)
         }
         Task::Report(t) => reported(book, watch, n, t),
+        Task::New => cleared(book),
         Task::Sum => reply(watch, Answer::Sum(n.total)),
         _ => reply(watch, Answer::Passed),
     }
-}
-
-// An empty book, and the first watch.
-fn cleared(book: &mut [u16]) -> Reply
-    ensures { λ r. ⌜ Clears (now (book .entry)) r (now (book .exit)) ⌝ }
-{
-    clear(book);
-    let watch = new_watch();
-    reply(watch, Answer::Begun)
-}
-
-fn finish(book: &mut [u16], c: Case, n: Sums) -> Reply
-    requires { ⌜ RestNeeds (now book) c n ⌝ }
-    ensures { λ r. ⌜ finishBy (isNew (c .task)) (c .task) c n (now (book .entry)) r (now (book .exit)) ⌝ }
-{
-    if is_new(c) {
-        return cleared(book);
-    }
-    rest_of(book, c, n)
 }
 
 fn rest(reg: &mut [Station], book: &mut [u16], c: Case) -> Reply
@@ -436,7 +427,7 @@ fn rest(reg: &mut [Station], book: &mut [u16], c: Case) -> Reply
 {
     let d = same(c);
     let n = sum_all(reg, d);
-    finish(book, d, n)
+    rest_of(book, d, n)
 }
 
 // ---- what is left to be done
