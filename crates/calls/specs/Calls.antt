@@ -1,5 +1,5 @@
 -- The public calls, in the words of document 01: what each answers, and the state that it leaves. Hearing stands in hearing's specs/Hear.antt, choosing in
--- choosing's specs/Choosing.antt, passing in register's specs/State.antt. A refusal leaves the state as it was.
+-- choosing's specs/Choose.antt, passing in register's specs/State.antt. A refusal leaves the state as it was.
 -- Assumes nothing.
 use Prim.Native.Nat.{ℕ}
 use mathlib.Core.Bool.{Bool}
