@@ -94,7 +94,7 @@ all-answered f ts x a = all-held f ts x (is-true a)
 -- every number, by the list of tests; that each is above 0 is computed
 pub by-tests :
     {X : Type 0} (numbers : List ℕ) (f : X → ℕ) (ts : List (Bool × X)) (x : X) → map (λ (t : Bool × X). f (t .1)) ts ≡ numbers → T (above numbers)
-    → f x ≡ 0 → Exactly numbers f ts (ladder ts x)
+    → f x ≡ 0 → Exactly numbers f ts (f (ladder ts x))
 by-tests numbers f ts x order positive z =
     record {
       order = order;

@@ -26,8 +26,14 @@ pub record Stops {X : Type 0} (numbers : List ℕ) (ts : List (Bool × X)) (n : 
   pub number : getD numbers test 0 ≡ n
   pub stops : StopsAt test ts
 
--- the tests have these numbers, in this order; a number is given exactly when a test that has it stops, and 0, for none, exactly when all hold
-pub record Exactly {X : Type 0} (numbers : List ℕ) (numbered : X → ℕ) (ts : List (Bool × X)) (answer : X) : Type 0 where
+-- the tests have these numbers, in this order; of a call that gives the number r: a number is given exactly when a test that has it stops, and 0, for none,
+-- exactly when all hold
+pub record Exactly {X : Type 0} (numbers : List ℕ) (numbered : X → ℕ) (ts : List (Bool × X)) (r : ℕ) : Type 0 where
   pub order : map (λ (t : Bool × X). numbered (t .1)) ts ≡ numbers
-  pub given : (n : ℕ) → 0 < n → (numbered answer ≡ n) ↔ Stops numbers ts n
-  pub none : (numbered answer ≡ 0) ↔ AllHold ts
+  pub given : (n : ℕ) → 0 < n → (r ≡ n) ↔ Stops numbers ts n
+  pub none : (r ≡ 0) ↔ AllHold ts
+
+-- what every public call owes that gives the number r: each number exactly when, and where it gives one, nothing has changed: `Same` says so of all that is lent
+pub record Refuses {X : Type 0} (numbers : List ℕ) (numbered : X → ℕ) (ts : List (Bool × X)) (r : ℕ) (Same : Type 0) : Type 0 where
+  pub exactly : Exactly numbers numbered ts r
+  pub kept : 0 < r → Same
