@@ -8,7 +8,7 @@ use lib.IntN.{ℤ}
 use lib.ListN.{length}
 use Rattle.limits.specs.Limits.{messageBytes, listPlaces}
 use Rattle.numbers.specs.declared.Refusal.the-variants.{NoRoom, MessageLength}
-use Rattle.message.specs.Message.{receivedNumber, writtenNumber, readAnswer, writeAnswer, writeOut, Writes}
+use Rattle.message.specs.Message.{receivedNumber, writtenNumber, readTests, readAnswer, writeTests, writeAnswer, writeOut, Writes}
 use Rattle.message.specs.declared.Message.{Message}
 use Rattle.message.specs.declared.Received.{Received}
 use Rattle.message.specs.declared.Received.the-variants.{Refused}
@@ -24,7 +24,7 @@ unfolding listAnswer
 list-room l room h = simp (lt-leb listPlaces room h)
 
 pub list-read : (l : List ℕ) (room : ℕ) → listPlaces ≤ room → {x : Received} → x ≡ readAnswer l → x ≡ listAnswer l room
-unfolding listAnswer
+unfolding listAnswer readAnswer readTests
 list-read l room h e = e ∙ simp (le-leb listPlaces room h)
 
 pub listed : (l : List ℕ) (fields : List ℤ) (count : ℕ) (x : Received) → x ≡ listAnswer l (length fields) → {k n : ℕ} {o : List ℤ}
@@ -42,7 +42,7 @@ unfolding saidAnswer
 said-short fields room h k = simp (le-leb messageBytes room h, lt-leb listPlaces (length fields) k)
 
 pub said-written : (fields : List ℤ) (room : ℕ) → messageBytes ≤ room → listPlaces ≤ length fields → writeAnswer (messageIn fields) room ≡ saidAnswer fields room
-unfolding saidAnswer
+unfolding saidAnswer writeAnswer writeTests
 said-written fields room h k = simp (le-leb messageBytes room h, le-leb listPlaces (length fields) k)
 
 pub refused : (fields : List ℤ) (out : List ℕ) (x : Written) → x ≡ saidAnswer fields (length out) → {k : ℕ}

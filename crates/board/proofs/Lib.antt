@@ -1,3 +1,4 @@
 pub mod Answers
 pub mod Faces
+pub mod Exactly
 pub mod Once

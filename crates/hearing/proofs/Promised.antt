@@ -1,26 +1,15 @@
--- Each number exactly when, and the record is the lowest.
+-- A station's record is the lowest.
 -- Assumes nothing.
 use mathlib.Core.Path.{_≡_, refl, subst}
 use mathlib.Core.Logic.{_⊎_, inl, inr}
-use mathlib.Core.List.{[], _∷_}
 use Prim.Native.Nat.{ℕ, _<_}
 use native.Mathlib.Decide.{decLt}
 use native.Mathlib.Omega.{arith}
 use lib.ListN.{length, getD}
-use Rattle.laws.proofs.Ladder.{by-tests}
 use Rattle.limits.specs.Limits.{records}
-use Rattle.register.specs.Answers.{givenNumber}
 use Rattle.hearing.specs.Station.{indexOf, recordOf}
-use Rattle.hearing.specs.Hear.{tellingIn, hears, hearTests, hear}
-use Rattle.hearing.specs.Promises.{HearExactly, First, RecordIsLowest}
+use Rattle.hearing.specs.Promises.{First, RecordIsLowest}
 use Rattle.hearing.proofs.Stations.{record-known, record-idle, before-none, first-is}
-
-pub hear-exactly : HearExactly
-unfolding hear hearTests
-hear-exactly s bytes =
-    by-tests (17 ∷ 18 ∷ 20 ∷ 21 ∷ 22 ∷ 23 ∷ 35 ∷ []) givenNumber (hearTests s bytes) (hears s (tellingIn bytes)) refl tt refl
-
--- ---- the record
 
 pub record-lowest : RecordIsLowest
 record-lowest s t x e f p = go (decLt (indexOf x s) (length s))

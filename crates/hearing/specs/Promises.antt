@@ -3,21 +3,10 @@
 use Prim.Native.Nat.{ℕ, _<_}
 use mathlib.Core.Path.{_≡_}
 use mathlib.Core.Logic.{_⊎_}
-use mathlib.Core.List.{List, [], _∷_}
+use mathlib.Core.List.{List}
 use lib.ListN.{length, getD}
-use Rattle.laws.specs.Exactly.{Exactly}
 use Rattle.limits.specs.Limits.{records}
-use Rattle.register.specs.State.{State}
-use Rattle.register.specs.Answers.{givenNumber}
 use Rattle.hearing.specs.Station.{recordOf}
-use Rattle.hearing.specs.Hear.{hearTests, hear}
-
--- each number is given exactly when
-abbrev pub HearExactly : Type 0
-HearExactly =
-    (s : State) (bytes : List ℕ) → Exactly (17 ∷ 18 ∷ 20 ∷ 21 ∷ 22 ∷ 23 ∷ 35 ∷ []) givenNumber (hearTests s bytes) (hear s bytes)
-
--- ---- the record
 
 -- k is the lowest number in the list at which x stands
 pub record First (x : ℕ) (l : List ℕ) (k : ℕ) : Type 0 where

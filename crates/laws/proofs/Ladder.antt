@@ -1,6 +1,6 @@
 -- "Given exactly when" (specs/Exactly.antt) holds of every ladder whose tests have numbers above 0.
 -- Assumes nothing.
-use mathlib.Core.Path.{_≡_, refl, sym, ap, _∙_}
+use mathlib.Core.Path.{_≡_, refl, sym, ap, subst, _∙_}
 use mathlib.Core.Bool.{Bool, true, false, not, true≢false}
 use mathlib.Core.Logic.{_↔_}
 use mathlib.Core.List.{List, [], _∷_, map}
@@ -10,7 +10,7 @@ use lib.Dec.{T, eqb, ltb}
 use lib.ListN.{getD}
 use borrow.Author.Tests.{eq-eqb, ltb-true}
 use Rattle.laws.specs.Tests.{both, ladder}
-use Rattle.laws.specs.Exactly.{AllHold, StopsAt, Stops, Exactly}
+use Rattle.laws.specs.Exactly.{AllHold, StopsAt, Stops, Exactly, Refuses}
 use Rattle.laws.proofs.Tests.{is-true, both-left, both-right, was-false}
 
 -- every number is above 0
@@ -101,3 +101,9 @@ by-tests numbers f ts x order positive z =
       given = λ n p. given-by numbers f ts x order n (λ e. omega (arith, z, e));
       none = (all-held f ts x (ap above order ∙ is-true positive), λ a. ap f (all-through ts x a) ∙ z);
     }
+
+-- a call that gives the number of the answer a
+pub owes :
+    {X : Type 0} (numbers : List ℕ) (f : X → ℕ) (ts : List (Bool × X)) (a : X) (r : ℕ) {Same : Type 0} → Exactly numbers f ts (f a) → r ≡ f a → (0 < r → Same)
+    → Refuses numbers f ts r Same
+owes numbers f ts a r x e k = record { exactly = subst (Exactly numbers f ts) (sym e) x; kept = k }

@@ -37,7 +37,7 @@ use Rattle.message.specs.declared.state.SelfOrganised.{SelfOrganised}
 use Rattle.message.specs.declared.state.Incremental.{Incremental}
 use Rattle.message.proofs.Complement.{unsigned-signed, signed-unsigned}
 use Rattle.message.proofs.Readings.{sub-slot, sub-stations, read-good}
-use Rattle.message.proofs.Exactly.{read-exactly, write-exactly}
+use Rattle.message.proofs.Exactly.{received-exactly, written-exactly}
 
 -- ---- rows
 
@@ -268,7 +268,7 @@ bytes-again l m n k s bytes =
 stands-again : (l : List ℕ) (m : Message) → readAnswer l ≡ Got m → (length l ≡ messageBytes) × (known m ≡ true) × Stands l 0 (rowOf m)
 unfolding readTests messageOf
 stands-again l m e =
-    let t = read-exactly l .none .0 (ap receivedNumber e) in
+    let t = received-exactly l .none .0 (ap receivedNumber e) in
     let n = eqb-true (length l) messageBytes (t .0) in
     let b = between-is 1 4 (idIn l) (t .1) in
     let got = read-good l n (t .1) ∙ e in
@@ -281,7 +281,7 @@ stands-again l m e =
 pub read-after-write : ReadAfterWrite
 unfolding writeTests
 read-after-write m room e =
-    let t = write-exactly m room .none .0 (ap writtenNumber e) in
+    let t = written-exactly m room .none .0 (ap writtenNumber e) in
     message-back m (t .1 .0) (t .1 .1)
 
 pub write-after-read : WriteAfterRead

@@ -5,7 +5,7 @@ use mathlib.Core.Path.{_≡_}
 use mathlib.Core.List.{List, [], _∷_}
 use lib.ListN.{length}
 use Rattle.laws.specs.Lists.{over, AllBytes}
-use Rattle.laws.specs.Exactly.{Exactly}
+use Rattle.laws.specs.Exactly.{Exactly, Refuses}
 use Rattle.limits.specs.Limits.{messageBytes}
 use Rattle.message.specs.Message.{receivedNumber, writtenNumber, readTests, readAnswer, writeTests, writeAnswer, bytesOf, Writes}
 use Rattle.message.specs.declared.Message.{Message}
@@ -32,10 +32,12 @@ abbrev pub WriteOnce : Type 0
 WriteOnce =
     (m : Message) (out : List ℕ) (r r′ : Written) (o o′ : List ℕ) → Writes m out r o → Writes m out r′ o′ → (r ≡ r′) × (o ≡ o′)
 
--- ---- each number is given exactly when
+-- ---- each number is given exactly when, and then the lent buffer is as it was; reading writes to nothing that is lent
 
 abbrev pub ReadExactly : Type 0
-ReadExactly = (l : List ℕ) → Exactly (17 ∷ 18 ∷ []) receivedNumber (readTests l) (readAnswer l)
+ReadExactly = (l : List ℕ) (r : Received) → r ≡ readAnswer l → Exactly (17 ∷ 18 ∷ []) receivedNumber (readTests l) (receivedNumber r)
 
 abbrev pub WriteExactly : Type 0
-WriteExactly = (m : Message) (room : ℕ) → Exactly (12 ∷ 18 ∷ 19 ∷ []) writtenNumber (writeTests m room) (writeAnswer m room)
+WriteExactly =
+    (m : Message) (out : List ℕ) (r : Written) (out′ : List ℕ) → Writes m out r out′
+    → Refuses (12 ∷ 18 ∷ 19 ∷ []) writtenNumber (writeTests m (length out)) (writtenNumber r) (out′ ≡ out)

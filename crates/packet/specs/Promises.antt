@@ -5,7 +5,7 @@ use mathlib.Core.Path.{_≡_}
 use mathlib.Core.List.{List, [], _∷_}
 use lib.ListN.{length}
 use Rattle.laws.specs.Lists.{over, AllBytes}
-use Rattle.laws.specs.Exactly.{Exactly}
+use Rattle.laws.specs.Exactly.{Refuses}
 use Rattle.limits.specs.Limits.{payloadBytes, mostPacket}
 use Rattle.bits.specs.Bits.{bytesOf}
 use Rattle.packet.specs.Packet.{packetOf, writtenNumber, writeTests, writeAnswer, Writes, receivedNumber, bodyOf, frameIn, readTests, readAnswer, Reads}
@@ -35,11 +35,14 @@ abbrev pub ReadOnce : Type 0
 ReadOnce =
     (xs out : List ℕ) (r r′ : Unpacked) (o o′ : List ℕ) → Reads xs out r o → Reads xs out r′ o′ → (r ≡ r′) × (o ≡ o′)
 
--- ---- each number is given exactly when
+-- ---- each number is given exactly when, and then the lent buffer is as it was
 
 abbrev pub WriteExactly : Type 0
-WriteExactly = (p : List ℕ) (room : ℕ) → Exactly (11 ∷ 12 ∷ []) writtenNumber (writeTests p room) (writeAnswer p room)
+WriteExactly =
+    (p out : List ℕ) (r : Packed) (out′ : List ℕ) → Writes p out r out′
+    → Refuses (11 ∷ 12 ∷ []) writtenNumber (writeTests p (length out)) (writtenNumber r) (out′ ≡ out)
 
 abbrev pub ReadExactly : Type 0
 ReadExactly =
-    (xs : List ℕ) (room : ℕ) → Exactly (11 ∷ 12 ∷ 10 ∷ 13 ∷ 14 ∷ 15 ∷ 16 ∷ []) receivedNumber (readTests xs room) (readAnswer xs room)
+    (xs out : List ℕ) (r : Unpacked) (out′ : List ℕ) → Reads xs out r out′
+    → Refuses (11 ∷ 12 ∷ 10 ∷ 13 ∷ 14 ∷ 15 ∷ 16 ∷ []) receivedNumber (readTests xs (length out)) (receivedNumber r) (out′ ≡ out)

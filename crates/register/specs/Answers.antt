@@ -2,12 +2,14 @@
 -- Assumes nothing.
 use Prim.Native.Nat.{ℕ}
 use mathlib.Core.Bool.{Bool}
+use mathlib.Core.List.{List, [], _∷_, map}
 use lib.Dec.{eqb}
 use lib.ListN.{length}
 use Rattle.laws.specs.Tests.{both}
 use Rattle.limits.specs.Limits.{slotTimes, records}
 use Rattle.numbers.specs.declared.Refusal.{Refusal}
 use Rattle.numbers.specs.Numbers.{numberOf}
+use Rattle.message.specs.State.{timeOutOf, subRow}
 use Rattle.walks.specs.Out.{Out, out}
 use Rattle.register.specs.declared.Reply.{Reply}
 use Rattle.register.specs.declared.Answer.{Answer}
@@ -29,20 +31,31 @@ no s r = answered (Refused r) s
 abbrev pub outOf : Answered → Out Reply
 outOf a = out (record { watch = a .state .watch; answer = a .answer }) (a .state .reg) (a .state .book)
 
--- 0 for none
-abbrev pub answerNumber : Answer → ℕ
-answerNumber Passed = 0
-answerNumber (Heard m) = 0
-answerNumber Planned = 0
-answerNumber Set = 0
-answerNumber (Chosen c) = 0
-answerNumber (Report m) = 0
-answerNumber (Refused r) = numberOf r
-answerNumber Begun = 0
-answerNumber (Sum n) = 0
+-- ---- an answer in the paper's words
+
+-- the number given, 0 where the call is done, and the values
+pub record Said : Type 0 where
+  pub number : ℕ
+  pub values : List ℕ
+
+abbrev pub did : List ℕ → Said
+did values = record { number = 0; values = values }
+
+-- a station that was heard: its source and its marks; an own slot: distance, slot number, candidates, marks replaced; a report: its time-out and the numbers of its
+-- sub-message; the sum: the records' tallies together; a refusal: its number only
+abbrev pub said : Answer → Said
+said Passed = did []
+said (Heard m) = did (m .source ∷ m .marks ∷ [])
+said Planned = did []
+said Set = did []
+said (Chosen c) = did (c .distance ∷ c .slot ∷ c .candidates ∷ c .replaced ∷ [])
+said (Report m) = did (timeOutOf m ∷ map (λ (f : ℕ × ℕ). f .1) (subRow m))
+said (Refused r) = record { number = numberOf r; values = [] }
+said Begun = did []
+said (Sum n) = did (n ∷ [])
 
 abbrev pub givenNumber : Answered → ℕ
-givenNumber a = answerNumber (a .answer)
+givenNumber a = said (a .answer) .number
 
 -- book and register have the lengths that they must have: 20 is given for any other
 unfoldable pub sized : State → Bool

@@ -14,4 +14,5 @@ OwnOnce = (source : ℕ) (lat lon : ℤ) (r r′ : Owned) → r ≡ ownAnswer so
 
 -- each number is given exactly when
 abbrev pub OwnExactly : Type 0
-OwnExactly = (source : ℕ) (lat lon : ℤ) → Exactly (21 ∷ 30 ∷ []) ownedNumber (ownTests source lat lon) (ownAnswer source lat lon)
+OwnExactly =
+    (source : ℕ) (lat lon : ℤ) (r : Owned) → r ≡ ownAnswer source lat lon → Exactly (21 ∷ 30 ∷ []) ownedNumber (ownTests source lat lon) (ownedNumber r)
