@@ -18,9 +18,10 @@ use Rattle.candidates.specs.declared.Picked.the-variants.{At, NoCandidate, Sent
 use Rattle.candidates.specs.Window.{isNo, isBack, distanceIn, numberIn}
 use Rattle.candidates.proofs.Promised.{pick-is-candidate}
 use Rattle.register.specs.declared.Slot.{Slot}
+use Rattle.register.specs.declared.Answer.{Answer}
 use Rattle.register.specs.declared.Answer.the-variants.{Chosen}
 use Rattle.register.specs.State.{State}
-use Rattle.register.specs.Answers.{Answered, answerNumber, givenNumber}
+use Rattle.register.specs.Answers.{Answered, said, Said, givenNumber}
 use Rattle.choosing.specs.declared.Wanted.{Wanted}
 use Rattle.choosing.specs.Choosing.{askFits, windowOf, viewOf}
 use Rattle.choosing.specs.Choose.{drawnIn, chooseTests, chooses, choose}
@@ -75,7 +76,7 @@ module _ (s : State) (a : Wanted) (c : Slot) (e : choose s a .answer ≡ Chosen 
   -- every test held
   pub tests-held : AllHold (chooseTests s a)
   unfolding choose chooseTests
-  tests-held = all-answered givenNumber (chooseTests s a) (chooses s a) tt (ap answerNumber e)
+  tests-held = all-answered givenNumber (chooseTests s a) (chooses s a) tt (ap (λ (x : Answer). said x .number) e)
 
   -- so what is given then is answered and left
   pub through : choose s a ≡ chooses s a

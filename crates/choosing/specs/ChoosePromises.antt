@@ -20,7 +20,7 @@ use Rattle.choosing.specs.Choose.{chooseTests, choose}
 -- each number is given exactly when
 abbrev pub ChooseExactly : Type 0
 ChooseExactly =
-    (s : State) (a : Wanted) → Exactly (20 ∷ 31 ∷ 30 ∷ 32 ∷ 33 ∷ 34 ∷ 35 ∷ []) givenNumber (chooseTests s a) (choose s a)
+    (s : State) (a : Wanted) → Exactly (20 ∷ 31 ∷ 30 ∷ 32 ∷ 33 ∷ 34 ∷ 35 ∷ []) givenNumber (chooseTests s a) (givenNumber (choose s a))
 
 -- no slot that can be chosen reaches beyond the book
 abbrev pub NeverBeyond : Type 0
