@@ -24,7 +24,6 @@ use Rattle.choosing.specs.Choosing.{askFits, viewOf}
 use Rattle.choosing.specs.Choose.{drawnIn, chosen, chooseTests}
 use Rattle.choosing.proofs.Choosing.{not-taken}
 use Rattle.choosing.proofs.Chosen.{is-at}
-use Rattle.register.specs.declared.Slot.{Slot}
 use Rattle.register.specs.State.{State, bookIn, sourcesIn, settle, owned}
 use Rattle.register.proofs.Settling.{bookIn-settle}
 use Rattle.register.proofs.Again.{all-kinds}
@@ -110,9 +109,9 @@ module _ (s : State) (a : Wanted) (f : Fine s) (held : AllHold (chooseTests s a)
   unfolding chooseTests askFits
   known = ltb-true (a .k) (planIn s .rate) (both-left (ltb (a .k) (planIn s .rate)) (between leastTimeOut mostTimeOut (a .timeout)) (held .1 .1 .0))
 
-  pub choose-moves : (c : Slot) → c .distance ≡ drawn → ChosenBy a c s (chosen s drawn (a .timeout))
+  pub choose-moves : (d : ℕ) → d ≡ drawn → ChosenBy a d s (chosen s drawn (a .timeout))
   unfolding chooseTests
-  choose-moves c e =
+  choose-moves d e =
       let b = chosen-by s f drawn (a .timeout) in
       let last = ltb-true (drawn + frameSlots * a .timeout) slotTimes (held .1 .1 .1 .1 .1 .1) in
       record {

@@ -4,7 +4,9 @@ use Prim.Native.Nat.{ℕ, zero, suc}
 use mathlib.Core.Path.{_≡_, refl, sym, ap, subst, _∙_}
 use mathlib.Core.List.{List, [], _∷_}
 use native.Mathlib.Omega.{arith}
+use lib.Dec.{eqb}
 use lib.ListN.{length, getD, replicate, length-map, length-append}
+use Rattle.laws.specs.Tests.{pick}
 use Rattle.laws.specs.Loops.{upto}
 use Rattle.limits.specs.Limits.{slotTimes, records}
 use Rattle.book.specs.declared.Counts.{Counts}
@@ -19,14 +21,13 @@ use Rattle.announcing.specs.Announce.{announces}
 use Rattle.announcing.proofs.Effect.{sound-booked}
 use Rattle.ship.specs.declared.Station.{Station}
 use Rattle.ship.specs.Ship.{blank}
-use Rattle.register.specs.declared.Answer.{Answer}
 use Rattle.register.specs.State.{State, newState, talliesIn, bookIn}
 use Rattle.calls.specs.declared.What.the-variants.{Plan}
 use Rattle.calls.specs.Calls.{plan, called}
 use Rattle.promises.specs.Calls.{Call, afterCall, afterAll}
 use Rattle.promises.specs.History.{Event}
 use Rattle.promises.specs.Tallies.{TalliesAreCounts, AllMakeTheWhole, CallKeeps, PlanLeavesNone}
-use Rattle.promises.proofs.Moves.{Fine, recordIn, PlannedBy, MovedBy}
+use Rattle.promises.proofs.Moves.{Fine, Stays, recordIn, PlannedBy}
 use Rattle.promises.proofs.Stands.{Stands}
 use Rattle.promises.proofs.Grown.{one-call, always}
 use Rattle.promises.proofs.Moving.{moved}
@@ -54,8 +55,8 @@ counted =
           subst Sound (sym (b .book))
           (sound-booked (s .watch .present) (suc (recordIn s x)) (announces (x .state)) (omega (arith, b .there)) (bookIn s) p);
       planning = λ s s′ es f b p. subst Sound (sym (b .book)) (sound-release (bookIn s) ours slotTimes (omega arith) p);
-      choosing = λ s s′ es a c f b p.
-          subst Sound (sym (b .book)) (sound-frames (s .watch .present) (c .distance) (bookIn s) (suc (a .timeout)) p);
+      choosing = λ s s′ es a d f b p.
+          subst Sound (sym (b .book)) (sound-frames (s .watch .present) (d) (bookIn s) (suc (a .timeout)) p);
     }
 
 pub tallies-are-counts : TalliesAreCounts
@@ -92,4 +93,4 @@ pub plan-leaves-none : PlanLeavesNone
 unfolding afterCall called upto
 plan-leaves-none s x p e =
     let c : Call = record { passes = 0; bytes = []; what = Plan x } in
-    planned-none s (plan s x .state) p (subst (λ (a : Answer). MovedBy a c s (plan s x .state)) e (moved s c (fine-of s p)))
+    planned-none s (plan s x .state) p (subst (λ (n : ℕ). pick (eqb n 0) (PlannedBy s (plan s x .state)) (Stays s (plan s x .state))) e (moved s c (fine-of s p)))

@@ -4,11 +4,11 @@ use Rattle.packet.proofs.RoundTrip as packet
 use Rattle.packet.proofs.Exactly as packet-numbers
 use Rattle.message.proofs.RoundTrip as message
 use Rattle.message.proofs.Exactly as message-numbers
-use Rattle.hearing.proofs.Promised as hearing
 use Rattle.candidates.proofs.Promised as candidates
 use Rattle.choosing.proofs.Chosen as choosing
 use Rattle.choosing.proofs.HoldingOff as holding
 use Rattle.board.proofs.Once as board
+use Rattle.board.proofs.Exactly as board-numbers
 use Rattle.calls.proofs.Promised as calls
 use Rattle.journal.proofs.Promised as journal
 use Rattle.promises.specs.Deed.{Deed}
@@ -26,18 +26,12 @@ deed =
         packet-read = packet-numbers.read-exactly;
         message-written = message-numbers.write-exactly;
         message-read = message-numbers.read-exactly;
-        passed = calls.pass-exactly;
-        heard = hearing.hear-exactly;
-        planned = calls.plan-exactly;
-        own = calls.own-exactly;
-        chosen = choosing.choose-exactly;
+        board-packet-written = board-numbers.packet-write-exactly;
+        board-packet-read = board-numbers.packet-read-exactly;
+        board-message-written = board-numbers.message-write-exactly;
+        board-message-read = board-numbers.message-read-exactly;
+        called = calls.refuses-exactly;
         never-beyond = choosing.never-beyond;
-        reported = calls.report-exactly;
-        begun = calls.begin-exactly;
-        summed = calls.sum-exactly;
-        nothing-changed = calls.refused-keeps;
-        only-passes = calls.refused-passes;
-        lengths-first = calls.lengths-first;
       };
       agrees = record {
         packet-back = packet.read-after-write;

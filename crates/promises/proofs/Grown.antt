@@ -5,7 +5,7 @@ use mathlib.Core.List.{List, [], _∷_}
 use Prim.Native.Nat.{ℕ}
 use native.Mathlib.Nat.{add-zero}
 use Rattle.register.specs.State.{State}
-use Rattle.register.specs.Answers.{Answered}
+use Rattle.register.specs.Answers.{Answered, said}
 use Rattle.calls.specs.declared.What.the-variants.{Nothing}
 use Rattle.calls.specs.Calls.{called}
 use Rattle.calls.proofs.Promised.{passes-apart}
@@ -30,16 +30,16 @@ in-two s c f =
     ∙ passes-apart s (c .passes) 0 (c .bytes) (c .what) (fine-sized s f)
 
 pub one-call : (P : State → List Event → Type 0) → Stands P → (s : State) (c : Call) (es : List Event) → Fine s → P s es
-    → P (afterCall s c) (pastBy (answerTo s c .answer) c (passed (c .passes) ∷ es))
+    → P (afterCall s c) (pastBy (said (answerTo s c .answer)) c (passed (c .passes) ∷ es))
 unfolding afterCall
 one-call P h s c es f p =
     let s′ = afterCall s (passesOf c) in
     let b = passed-by s (c .passes) (c .bytes) f in
     let f′ = lasting .passing s s′ es (c .passes) f b f in
     let es′ = passed (c .passes) ∷ es in
-    subst (λ (o : Answered). P (o .state) (pastBy (o .answer) c es′)) (sym (in-two s c f))
+    subst (λ (o : Answered). P (o .state) (pastBy (said (o .answer)) c es′)) (sym (in-two s c f))
     (asked-so P h s′ (afterCall s′ (restOf c)) es′ f′ (h .passing s s′ es (c .passes) f b p)
-    (answerTo s′ (restOf c) .answer) c (moved s′ c f′))
+    (said (answerTo s′ (restOf c) .answer)) c (moved s′ c f′))
 
 grown : (cs : List Call) → Fine (afterAll cs)
 unfolding afterAll

@@ -23,7 +23,6 @@ use Rattle.hearing.specs.Station.{recordOf}
 use Rattle.announcing.specs.declared.rows.Row.{Row}
 use Rattle.announcing.specs.Announce.{announces}
 use Rattle.choosing.specs.declared.Wanted.{Wanted}
-use Rattle.register.specs.declared.Slot.{Slot}
 use Rattle.register.specs.State.{State, newState, talliesIn, sourcesIn, bookIn}
 use Rattle.promises.specs.Calls.{afterAll}
 use Rattle.promises.specs.History.{Event, Who, pastOf, timeOf, afterEvent, givenUp, holderOf, whoOf, whoIn, HoldersByEvents}
@@ -168,11 +167,11 @@ module _ (s s′ : State) (es : List Event) (p : Agrees s es) where
           beyond = λ t l. ap givenUp (p .beyond t (omega arith));
         }
 
-    agrees-chosen : (a : Wanted) (c : Slot) → ChosenBy a c s s′ → Agrees s′ (owned (c .distance) (a .timeout) ∷ es)
+    agrees-chosen : (a : Wanted) (d : ℕ) → ChosenBy a d s s′ → Agrees s′ (owned d (a .timeout) ∷ es)
     unfolding timeOf holderOf afterEvent
-    agrees-chosen a c b =
+    agrees-chosen a d b =
         record {
-          sound = counted .choosing s s′ es a c f b (p .sound);
+          sound = counted .choosing s s′ es a d f b (p .sound);
           here = omega (arith, b .present, p .here);
           apart = subst Apart (sym (b .sources)) (p .apart);
           inside = λ t from to.
@@ -187,9 +186,6 @@ module _ (s s′ : State) (es : List Event) (p : Agrees s es) where
               ap (λ (y : Who). pick (some (λ i. eqb t (u + (d + frameSlots * i))) (a .timeout + 1)) us y) (p .beyond t (omega arith))
               ∙ rw (own-beyond u t d (a .timeout + 1) (omega (arith, b .within)) (omega arith));
         }
-      where
-        d : ℕ
-        d = c .distance
 
 pub agreed : Stands Agrees
 agreed =
@@ -199,7 +195,7 @@ agreed =
       staying = λ s s′ es b p. agrees-stays s s′ es p b;
       hearing = λ s s′ es x f b p. agrees-heard s s′ es p f x b;
       planning = λ s s′ es f b p. agrees-planned s s′ es p f b;
-      choosing = λ s s′ es a c f b p. agrees-chosen s s′ es p f a c b;
+      choosing = λ s s′ es a d f b p. agrees-chosen s s′ es p f a d b;
     }
 
 -- ---- the slot time d ahead

@@ -52,7 +52,7 @@ lasting =
           let sizes = booked-sizes (s .watch .present) (suc (recordIn s x)) (announces (x .state)) (bookIn s) in
           fine-by s s′ f _ sources (b .book) sizes;
       planning = λ s s′ es f b p. fine-by s s′ f _ (ap length (b .sources)) (b .book) (released-sizes ours (bookIn s) slotTimes);
-      choosing = λ s s′ es a c f b p.
-          let sizes = frames-sizes (s .watch .present) (c .distance) (bookIn s) (suc (a .timeout)) in
+      choosing = λ s s′ es a d f b p.
+          let sizes = frames-sizes (s .watch .present) (d) (bookIn s) (suc (a .timeout)) in
           fine-by s s′ f _ (ap length (b .sources)) (b .book) sizes;
     }

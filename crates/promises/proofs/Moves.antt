@@ -4,7 +4,10 @@
 use Prim.Native.Nat.{ℕ, suc, _+_, _*_, _≤_, _<_}
 use mathlib.Core.Path.{_≡_}
 use mathlib.Core.Bool.{true, false}
-use lib.ListN.{length, set}
+use mathlib.Core.List.{List}
+use lib.Dec.{eqb}
+use lib.ListN.{length, getD, set}
+use Rattle.laws.specs.Tests.{pick}
 use Rattle.laws.specs.Loops.{upto}
 use Rattle.limits.specs.Limits.{frameSlots, slotTimes, records}
 use Rattle.plan.specs.Plan.{InRange}
@@ -17,10 +20,8 @@ use Rattle.hearing.specs.Hear.{tellingIn, recordFor}
 use Rattle.candidates.specs.declared.Window.{Window}
 use Rattle.choosing.specs.declared.Wanted.{Wanted}
 use Rattle.choosing.specs.Choosing.{windowOf, anyOwn}
-use Rattle.register.specs.declared.Answer.{Answer}
-use Rattle.register.specs.declared.Answer.the-variants.{Begun, Passed, Heard, Planned, Set, Chosen, Report as Reported, Refused, Sum as Summed}
-use Rattle.register.specs.declared.Slot.{Slot}
 use Rattle.register.specs.State.{State, newState, bookIn, sourcesIn}
+use Rattle.register.specs.Answers.{Said}
 use Rattle.calls.specs.declared.What.{What}
 use Rattle.calls.specs.declared.What.the-variants.{Nothing, Hear, Plan, Own, Choose, Report, New, Sum}
 use Rattle.calls.specs.Calls.{planIn}
@@ -78,36 +79,29 @@ abbrev pub ownedIn : ℕ → ℕ → Book → ℕ → Book
 ownedIn present d = upto (λ b i. putAt b (place present (d + frameSlots * i)) ours)
 
 -- a slot was chosen: one of the window meant, which had no own mark
-pub record ChosenBy (a : Wanted) (c : Slot) (s s′ : State) : Type 0 where
+pub record ChosenBy (a : Wanted) (d : ℕ) (s s′ : State) : Type 0 where
   pub ranged : InRange (planIn s)
   pub known : a .k < planIn s .rate
   pub free : anyOwn (s .book) (windowIn s a) ≡ false
-  pub from : windowIn s a .first ≤ c .distance
-  pub to : c .distance < windowIn s a .first + windowIn s a .width
-  pub within : c .distance + frameSlots * a .timeout < slotTimes
-  pub book : bookIn s′ ≡ ownedIn (s .watch .present) (c .distance) (bookIn s) (suc (a .timeout))
+  pub from : windowIn s a .first ≤ d
+  pub to : d < windowIn s a .first + windowIn s a .width
+  pub within : d + frameSlots * a .timeout < slotTimes
+  pub book : bookIn s′ ≡ ownedIn (s .watch .present) (d) (bookIn s) (suc (a .timeout))
   pub sources : sourcesIn (s′ .reg) ≡ sourcesIn (s .reg)
   pub present : s′ .watch .present ≡ s .watch .present
   pub plan : planIn s′ ≡ planIn s
 
--- by what was asked: a call that asks for something else gives no such answer
-abbrev pub ChosenAs : What → Slot → State → State → Type 0
-ChosenAs Nothing c s s′ = ⊥
-ChosenAs Hear c s s′ = ⊥
-ChosenAs (Plan p) c s s′ = ⊥
-ChosenAs (Own o) c s s′ = ⊥
-ChosenAs (Choose a) c s s′ = ChosenBy a c s s′
-ChosenAs (Report t) c s s′ = ⊥
-ChosenAs New c s s′ = ⊥
-ChosenAs Sum c s s′ = ⊥
+-- what was asked is done
+abbrev pub DoneBy : What → List ℕ → List ℕ → State → State → Type 0
+DoneBy Nothing bytes values s s′ = Stays s s′
+DoneBy Hear bytes values s s′ = HeardBy (tellingIn bytes) s s′
+DoneBy (Plan p) bytes values s s′ = PlannedBy s s′
+DoneBy (Own o) bytes values s s′ = Stays s s′
+DoneBy (Choose a) bytes values s s′ = ChosenBy a (getD values 0 0) s s′
+DoneBy (Report t) bytes values s s′ = Stays s s′
+DoneBy New bytes values s s′ = s′ ≡ newState slotTimes records
+DoneBy Sum bytes values s s′ = Stays s s′
 
-abbrev pub MovedBy : Answer → Call → State → State → Type 0
-MovedBy Passed q s s′ = Stays s s′
-MovedBy (Heard m) q s s′ = HeardBy (tellingIn (q .bytes)) s s′
-MovedBy Planned q s s′ = PlannedBy s s′
-MovedBy Set q s s′ = Stays s s′
-MovedBy (Chosen c) q s s′ = ChosenAs (q .what) c s s′
-MovedBy (Reported m) q s s′ = Stays s s′
-MovedBy (Refused r) q s s′ = Stays s s′
-MovedBy Begun q s s′ = s′ ≡ newState slotTimes records
-MovedBy (Summed n) q s s′ = Stays s s′
+-- or refused
+abbrev pub MovedBy : Said → Call → State → State → Type 0
+MovedBy a q s s′ = pick (eqb (a .number) 0) (DoneBy (q .what) (q .bytes) (a .values) s s′) (Stays s s′)

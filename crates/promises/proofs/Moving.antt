@@ -12,7 +12,7 @@ use Rattle.hearing.specs.Hear.{tellingIn, hearTests, hears, hear}
 use Rattle.choosing.specs.Choose.{chooseTests, chooses, choose}
 use Rattle.register.specs.declared.Answer.the-variants.{Begun, Passed, Planned, Set}
 use Rattle.register.specs.State.{State, newState}
-use Rattle.register.specs.Answers.{Answered, answered}
+use Rattle.register.specs.Answers.{Answered, answered, said}
 use Rattle.calls.specs.declared.What.{What}
 use Rattle.calls.specs.declared.What.the-variants.{Nothing, Hear, Plan, Own, Choose, Report, New, Sum}
 use Rattle.calls.specs.Calls.{
@@ -64,7 +64,7 @@ stays s = record { book = refl; sources = refl; present = refl; plan = refl }
 module _ (s : State) (f : Fine s) (n : ℕ) (bytes : List ℕ) where
   -- what was answered, and the state that is left; the slots that pass before are not asked for
   abbrev Moved : What → Answered → Type 0
-  Moved q a = MovedBy (a .answer) (record { passes = n; bytes = bytes; what = q }) s (a .state)
+  Moved q a = MovedBy (said (a .answer)) (record { passes = n; bytes = bytes; what = q }) s (a .state)
 
   -- by what is asked; a refusal leaves all as it was
   done-moves : (q : What) → Moved q (done q s bytes)
@@ -88,6 +88,6 @@ module _ (s : State) (f : Fine s) (n : ℕ) (bytes : List ℕ) where
   done-moves New = by-tests (Moved New) (passTests s) (answered Begun (newState slotTimes records)) (stays s, tt) (λ h. refl)
   done-moves Sum = by-tests (Moved Sum) (passTests s) _ (stays s, tt) (λ h. stays s)
 
-pub moved : (s : State) (c : Call) → Fine s → MovedBy (answerTo s (restOf c) .answer) c s (afterCall s (restOf c))
+pub moved : (s : State) (c : Call) → Fine s → MovedBy (said (answerTo s (restOf c) .answer)) c s (afterCall s (restOf c))
 unfolding afterCall called upto
 moved s c f = done-moves s f (c .passes) (c .bytes) (c .what)

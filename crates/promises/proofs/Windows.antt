@@ -16,7 +16,6 @@ use Rattle.candidates.specs.Slot.{isOwn, holderAt}
 use Rattle.announcing.specs.declared.rows.Row.{Row}
 use Rattle.choosing.specs.declared.Wanted.{Wanted}
 use Rattle.choosing.specs.Choosing.{windowMeant, anyOwn}
-use Rattle.register.specs.declared.Slot.{Slot}
 use Rattle.register.specs.State.{State, newState, sourcesIn}
 use Rattle.calls.specs.Calls.{planIn}
 use Rattle.promises.specs.Calls.{afterAll}
@@ -64,7 +63,7 @@ kept-planned p es r = record { ranged = λ l. r; keeps = keeps-none p _ _ (none-
 
 -- ---- a choice in the book is one by the events
 
-module _ (s s′ : State) (es : List Event) (h : Agrees s es) (a : Wanted) (c : Slot) (b : ChosenBy a c s s′) where
+module _ (s s′ : State) (es : List Event) (h : Agrees s es) (a : Wanted) (d : ℕ) (b : ChosenBy a d s s′) where
   abbrev ahead : ℕ
   ahead = onward (s .watch .present % frameSlots) (first (planIn s) (a .k))
 
@@ -72,7 +71,7 @@ module _ (s s′ : State) (es : List Event) (h : Agrees s es) (a : Wanted) (c : 
   unfolding meant
   ahead-is = let e : s .watch .present % frameSlots ≡ timeOf es % frameSlots = omega (arith, h .here) in rw e
 
-  picked : Within (planIn s) (meant (planIn s) (a .k) (timeOf es)) (timeOf es + c .distance)
+  picked : Within (planIn s) (meant (planIn s) (a .k) (timeOf es)) (timeOf es + d)
   unfolding windowMeant slots
   picked = record { from = omega (arith, ahead-is, b .from); to = omega (arith, ahead-is, b .to) }
 
@@ -86,7 +85,7 @@ module _ (s s′ : State) (es : List Event) (h : Agrees s es) (a : Wanted) (c : 
       let own = own-number (sourcesIn (s .reg)) _ (ap isUs who ∙ ap (λ (v : ℕ). isUs (holderOf es v)) at ∙ o) in
       true≢false (some-hit (λ j. isOwn (holderAt (s .book) (s .watch .present) (ahead + j))) i (slots (planIn s)) near own ∙ b .free)
 
-  may-choose : MayChoose (planIn s) (timeOf es) (Own es) (a .k) (c .distance)
+  may-choose : MayChoose (planIn s) (timeOf es) (Own es) (a .k) (d)
   may-choose = record { ranged = b .ranged; known = b .known; picked = picked; free = clear }
 
 -- ---- whatever happens
@@ -105,9 +104,9 @@ kept =
       hearing = λ s s′ es x f b p.
           (agreed .hearing s s′ es x f b (p .0), same-plan s s′ _ (b .plan) (kept-heard (planIn s) es (p .1) _ _));
       planning = λ s s′ es f b p. (agreed .planning s s′ es f b (p .0), kept-planned (planIn s′) es (b .ranged));
-      choosing = λ s s′ es a c f b p.
-          let may = may-choose s s′ es (p .0) a c b in
-          (agreed .choosing s s′ es a c f b (p .0), same-plan s s′ _ (b .plan) (kept-owned (planIn s) es (p .1) (a .k) _ _ may));
+      choosing = λ s s′ es a d f b p.
+          let may = may-choose s s′ es (p .0) a d b in
+          (agreed .choosing s s′ es a d f b (p .0), same-plan s s′ _ (b .plan) (kept-owned (planIn s) es (p .1) (a .k) _ _ may));
     }
 
 pub own-in-windows : OwnInWindows

@@ -2,7 +2,6 @@
 -- Assumes nothing.
 use Rattle.packet.specs.Promises as packet
 use Rattle.message.specs.Promises as message
-use Rattle.hearing.specs.Promises as hearing
 use Rattle.candidates.specs.Promises as candidates
 use Rattle.choosing.specs.ChoosePromises as choosing-call
 use Rattle.board.specs.Promises as board
@@ -20,18 +19,12 @@ pub record Refuses : Type 0 where
   pub packet-read : packet.ReadExactly
   pub message-written : message.WriteExactly
   pub message-read : message.ReadExactly
-  pub passed : calls.PassExactly
-  pub heard : hearing.HearExactly
-  pub planned : calls.PlanExactly
-  pub own : calls.OwnExactly
-  pub chosen : choosing-call.ChooseExactly
+  pub board-packet-written : board.PacketWriteExactly
+  pub board-packet-read : board.PacketReadExactly
+  pub board-message-written : board.MessageWriteExactly
+  pub board-message-read : board.MessageReadExactly
+  pub called : calls.RefusesExactly
   pub never-beyond : choosing-call.NeverBeyond
-  pub reported : calls.ReportExactly
-  pub begun : calls.BeginExactly
-  pub summed : calls.SumExactly
-  pub nothing-changed : calls.RefusedKeepsAll
-  pub only-passes : calls.RefusedStillPasses
-  pub lengths-first : calls.LengthsFirst
 
 -- demand 2: packets and messages both ways, the holder of every slot time, the draw, and a log cut anywhere
 pub record Agrees : Type 0 where

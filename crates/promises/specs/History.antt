@@ -13,9 +13,8 @@ use Rattle.hearing.specs.Hear.{tellingIn}
 use Rattle.announcing.specs.declared.rows.Row.{Row}
 use Rattle.announcing.specs.Rows.{marksTime, freesTime}
 use Rattle.announcing.specs.Announce.{announces}
-use Rattle.register.specs.declared.Answer.{Answer}
-use Rattle.register.specs.declared.Answer.the-variants.{Begun, Passed, Heard, Planned, Set, Chosen, Report as Reported, Refused, Sum as Summed}
 use Rattle.register.specs.State.{State, sourcesIn}
+use Rattle.register.specs.Answers.{Said, said}
 use Rattle.calls.specs.declared.What.{What}
 use Rattle.calls.specs.declared.What.the-variants.{Nothing, Hear, Plan, Own, Choose, Report, New, Sum}
 use Rattle.promises.specs.Calls.{Call, answerTo, afterAll}
@@ -36,33 +35,26 @@ pub data Event : Type 0 where
 abbrev pub heardIn : List ℕ → Event
 heardIn bytes = let x = tellingIn bytes in heard (x .source) (announces (x .state))
 
--- the time-out of a slot that was chosen
-abbrev pub timeOutIn : What → ℕ
-timeOutIn Nothing = 0
-timeOutIn Hear = 0
-timeOutIn (Plan p) = 0
-timeOutIn (Own o) = 0
-timeOutIn (Choose a) = a .timeout
-timeOutIn (Report t) = 0
-timeOutIn New = 0
-timeOutIn Sum = 0
+-- what has happened, after es, once this was asked and done: where our own slot lies is the first value of the answer
+abbrev pub happened : What → List ℕ → List ℕ → List Event → List Event
+happened Nothing bytes values es = es
+happened Hear bytes values es = heardIn bytes ∷ es
+happened (Plan p) bytes values es = planned ∷ es
+happened (Own o) bytes values es = es
+happened (Choose a) bytes values es = owned (getD values 0 0) (a .timeout) ∷ es
+happened (Report t) bytes values es = es
+happened New bytes values es = []
+happened Sum bytes values es = es
 
--- what has happened once a call is answered, after es: nothing more where it was refused or only looks, nothing at all where the book is new
-abbrev pub pastBy : Answer → Call → List Event → List Event
-pastBy Passed c es = es
-pastBy (Heard m) c es = heardIn (c .bytes) ∷ es
-pastBy Planned c es = planned ∷ es
-pastBy Set c es = es
-pastBy (Chosen x) c es = owned (x .distance) (timeOutIn (c .what)) ∷ es
-pastBy (Reported m) c es = es
-pastBy (Refused r) c es = es
-pastBy Begun c es = []
-pastBy (Summed n) c es = es
+-- nothing more where it was refused
+abbrev pub pastBy : Said → Call → List Event → List Event
+pastBy a c es = pick (eqb (a .number) 0) (happened (c .what) (c .bytes) (a .values) es) es
 
--- the events of a row of calls since the book was new, the last one first: by what was asked and what was answered
+-- the events of a row of calls since the book was new, the last one first. Which calls were refused, and where a slot of ours lies, is read off the answers: that these are
+-- right is what the exact refusals and the draw are promised for
 unfoldable pub pastOf : List Call → List Event
 pastOf [] = []
-pastOf (c ∷ cs) = pastBy (answerTo (afterAll cs) c .answer) c (passed (c .passes) ∷ pastOf cs)
+pastOf (c ∷ cs) = pastBy (said (answerTo (afterAll cs) c .answer)) c (passed (c .passes) ∷ pastOf cs)
 
 -- ---- the holder of a slot time
 

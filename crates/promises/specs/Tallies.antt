@@ -7,8 +7,8 @@ use Rattle.laws.specs.Counting.{sum}
 use Rattle.limits.specs.Limits.{slotTimes}
 use Rattle.book.specs.Sound.{Sound}
 use Rattle.plan.specs.declared.Plan.{Plan}
-use Rattle.register.specs.declared.Answer.the-variants.{Planned}
 use Rattle.register.specs.State.{State, talliesIn, bookIn}
+use Rattle.register.specs.Answers.{givenNumber}
 use Rattle.calls.specs.Calls.{plan}
 use Rattle.promises.specs.Calls.{Call, afterCall, afterAll}
 
@@ -30,4 +30,4 @@ CallKeeps = (s : State) (c : Call) → Sound (bookIn s) → Sound (bookIn (after
 
 -- a new plan leaves no own mark
 abbrev pub PlanLeavesNone : Type 0
-PlanLeavesNone = (s : State) (p : Plan) → Sound (bookIn s) → plan s p .answer ≡ Planned → plan s p .state .watch .channel .counts .own ≡ 0
+PlanLeavesNone = (s : State) (p : Plan) → Sound (bookIn s) → givenNumber (plan s p) ≡ 0 → plan s p .state .watch .channel .counts .own ≡ 0
