@@ -38,11 +38,11 @@ use Rattle.choosing.specs.Owning.{refusedBy, ownedAt, owningAt, owningOf
 -- ---- by what was drawn, p, in a window without an own mark
 
 -- the tests on it, and what is answered where they hold, m being the time-out
-abbrev drawnTests : State → ℕ → Picked → List (Bool × Answered)
+abbrev pub drawnTests : State → ℕ → Picked → List (Bool × Answered)
 drawnTests s m p =
     (not (isNo p), no s None) ∷ (not (isBack p), no s DrawBack) ∷ (ltb (distanceIn p + frameSlots * m) slotTimes, no s BeyondBook) ∷ []
 
-abbrev drawnSlot : State → ℕ → Picked → Answered
+abbrev pub drawnSlot : State → ℕ → Picked → Answered
 drawnSlot s m p =
     answered (Chosen (record {
       distance = distanceIn p;

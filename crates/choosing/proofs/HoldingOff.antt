@@ -19,15 +19,16 @@ use Rattle.ship.specs.declared.Station.{Station}
 use Rattle.ship.specs.Ship.{blank}
 use Rattle.book.specs.Book.{ours, isRecord, talliesOf, holder, place, putAt}
 use Rattle.candidates.specs.Slot.{holderAt}
+use Rattle.candidates.specs.Window.{distanceIn}
 use Rattle.register.specs.State.{State, bookIn, withHold, tallied, settle, heldOff, owned}
 use Rattle.register.specs.Answers.{Answered, sized}
 use Rattle.book.proofs.Holders.{record-is}
 use Rattle.register.proofs.Settling.{tallied-length}
-use Rattle.choosing.specs.Choose.{chooseTests, chosen}
+use Rattle.choosing.specs.Choose.{chosen}
 use Rattle.choosing.specs.Owning.{ownedIn}
 use Rattle.choosing.specs.ChoosePromises.{OnlyReplacedHeldOff}
 use Rattle.choosing.proofs.Frames.{apart}
-use Rattle.choosing.proofs.Chosen.{tests-held, through, distance-is, marks-in-the-book}
+use Rattle.choosing.proofs.Chosen.{through, draws, drawn, marks-in-the-book}
 
 -- the hold-off of the record k
 abbrev holdAt : List Station → ℕ → ℕ
@@ -152,14 +153,13 @@ unfolding sized
 many-records s e = eqb-true (length (s .reg)) records (both-right (eqb (length (s .book)) slotTimes) (eqb (length (s .reg)) records) e)
 
 pub only-replaced-held-off : OnlyReplacedHeldOff
-unfolding chooseTests chosen
-only-replaced-held-off s a c k below e =
-    let x = c .distance in
-    let fits = marks-in-the-book s a c e in
-    let many = many-records s (tests-held s a c e .0) in
+unfolding chosen
+only-replaced-held-off s a x slot n m k below e =
+    let fits = marks-in-the-book s a x slot n m e in
+    let many = many-records s (draws s a x slot n m e .sizes) in
     let left =
-    ap (λ (v : Answered). holdAt (v .state .reg) k) (through s a c e)
-    ∙ ap (λ (d : ℕ). holdAt (chosen s d (a .timeout) .reg) k) (distance-is s a c e) in
+    ap (λ (v : Answered). holdAt (v .state .reg) k) (through s a x slot n m e)
+    ∙ ap (λ (d : ℕ). holdAt (chosen s d (a .timeout) .reg) k) (ap distanceIn (drawn s a x slot n m e)) in
     record {
       replaced = λ i b q. left ∙ met s x (a .timeout) fits k many below (suc (a .timeout)) i (omega arith) (omega arith) q;
       other = λ none. left ∙ not-met s x (a .timeout) fits k (suc (a .timeout)) (omega arith) (λ i b. none i (omega arith));

@@ -8,4 +8,5 @@ pub mod Frames
 pub mod Owning
 pub mod Choosing
 pub mod Chosen
+pub mod Draws
 pub mod HoldingOff
