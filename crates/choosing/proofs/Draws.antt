@@ -31,9 +31,11 @@ use Rattle.choosing.specs.Choose.{drawnIn, replacedIn, chooseTests, choo
 use Rattle.choosing.specs.ChoosePromises.{
   viewIn,
   windowIn,
+  slotIs,
   Draws,
   withDraw,
   isSlot,
+  ChoseRightly,
   EqualDraws,
   RestSentBack,
   NoneExactly,
@@ -152,9 +154,14 @@ state-free v present at m e = free-worth v present at m ∙ ap (λ (t : SlotStat
 pub reuse-under-four : ReuseUnderFour
 unfolding windowMeant
 reuse-under-four s a x slot n m e more =
-    let c = chosen-is-candidate s a x slot n m e in
-    let present = s .watch .present in
-    by-test (freeAt (s .book) present x (a .timeout))
-    (λ free. absurd (omega (arith, c .counted, none-replaced (s .book) present x (a .timeout) free)))
-    (λ held. held-only-under-four s a (c .picks .slot) (c .picks .candidate)
-    (λ f. true≢false (sym (state-free (viewIn s) present x (a .timeout) (ap (λ (at : ℕ). stateOf (viewIn s) present at (a .timeout)) (c .picks .there) ∙ f)) ∙ held)) .few)
+    by-test (freeAt (s .book) (s .watch .present) x (a .timeout))
+    (λ free. absurd (omega (arith, c .counted, none-replaced (s .book) (s .watch .present) x (a .timeout) free)))
+    (λ held. held-only-under-four s a (c .picks .slot) (c .picks .candidate) (λ f. true≢false (sym (free-there f) ∙ held)) .few)
+  where
+    c : ChoseRightly s a x slot n m
+    c = chosen-is-candidate s a x slot n m e
+
+    free-there : slotIs s a (c .picks .slot) ≡ Free → freeAt (s .book) (s .watch .present) x (a .timeout) ≡ true
+    free-there f =
+        state-free (viewIn s) (s .watch .present) x (a .timeout)
+        (ap (λ (at : ℕ). stateOf (viewIn s) (s .watch .present) at (a .timeout)) (c .picks .there) ∙ f)
