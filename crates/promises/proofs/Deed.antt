@@ -10,10 +10,12 @@ use Rattle.choosing.proofs.HoldingOff as holding
 use Rattle.board.proofs.Once as board
 use Rattle.board.proofs.Exactly as board-numbers
 use Rattle.calls.proofs.Promised as calls
+use Rattle.logrecords.proofs.Promised as logrecords
 use Rattle.journal.proofs.Promised as journal
 use Rattle.promises.specs.Deed.{Deed}
 use Rattle.promises.proofs.Holders.{holders-by-events}
 use Rattle.promises.proofs.Counted.{tallies-are-counts, all-make-the-whole, call-keeps, plan-leaves-none}
+use Rattle.promises.proofs.Logs.{log-is-calls, cut-log-is-calls, last-line-sums-up, begin-is-new}
 use Rattle.promises.proofs.Windows.{own-in-windows}
 use Rattle.promises.proofs.Twelve.{marked-examples}
 use Rattle.promises.proofs.Contracts.{by-the-code}
@@ -32,6 +34,7 @@ deed =
         board-message-read = board-numbers.message-read-exactly;
         called = calls.refuses-exactly;
         never-beyond = choosing.never-beyond;
+        log = logrecords.log-exactly;
       };
       agrees = record {
         packet-back = packet.read-after-write;
@@ -50,6 +53,8 @@ deed =
         ties-to-the-earlier = candidates.ties-to-the-earlier;
         cut-anywhere = journal.however-cut;
         sum-is-last = journal.sum-is-last;
+        log-is-calls = log-is-calls;
+        cut-log-is-calls = cut-log-is-calls;
       };
       adds = record {
         tallies = tallies-are-counts;
@@ -57,6 +62,8 @@ deed =
         each-call = call-keeps;
         none-after-a-plan = plan-leaves-none;
         windows = own-in-windows;
+        last-line = last-line-sums-up;
+        begins-new = begin-is-new;
       };
       once = record {
         packet-written = packet.write-once;

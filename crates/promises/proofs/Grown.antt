@@ -41,7 +41,7 @@ one-call P h s c es f p =
     (asked-so P h s′ (afterCall s′ (restOf c)) es′ f′ (h .passing s s′ es (c .passes) f b p)
     (said (answerTo s′ (restOf c) .answer)) c (moved s′ c f′))
 
-grown : (cs : List Call) → Fine (afterAll cs)
+pub grown : (cs : List Call) → Fine (afterAll cs)
 unfolding afterAll
 grown [] = lasting .new
 grown (c ∷ cs) = one-call _ lasting (afterAll cs) c [] (grown cs) (grown cs)

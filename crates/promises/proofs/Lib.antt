@@ -10,6 +10,7 @@ pub mod Keeping
 pub mod Known
 pub mod Lasting
 pub mod Lengths
+pub mod Logs
 pub mod Moves
 pub mod Moving
 pub mod Ours

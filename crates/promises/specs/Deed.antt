@@ -6,10 +6,12 @@ use Rattle.candidates.specs.Promises as candidates
 use Rattle.choosing.specs.ChoosePromises as choosing-call
 use Rattle.board.specs.Promises as board
 use Rattle.calls.specs.Promises as calls
+use Rattle.logrecords.specs.Promises as logrecords
 use Rattle.journal.specs.Promises as journal
 use Rattle.promises.specs.Contracts.{ByTheCode}
 use Rattle.promises.specs.History.{HoldersByEvents}
 use Rattle.promises.specs.Tallies.{TalliesAreCounts, AllMakeTheWhole, CallKeeps, PlanLeavesNone}
+use Rattle.promises.specs.Logs.{LogIsCalls, CutLogIsCalls, LastLineSumsUp, BeginIsNew}
 use Rattle.promises.specs.Windows.{OwnInWindows}
 use Rattle.promises.specs.Examples.{MarkedExamples}
 
@@ -25,6 +27,7 @@ pub record Refuses : Type 0 where
   pub board-message-read : board.MessageReadExactly
   pub called : calls.RefusesExactly
   pub never-beyond : choosing-call.NeverBeyond
+  pub log : logrecords.LogExactly
 
 -- demand 2: packets and messages both ways, the holder of every slot time, the draw, and a log cut anywhere
 pub record Agrees : Type 0 where
@@ -44,6 +47,8 @@ pub record Agrees : Type 0 where
   pub ties-to-the-earlier : candidates.TiesToTheEarlier
   pub cut-anywhere : journal.HoweverCut
   pub sum-is-last : journal.SumIsLast
+  pub log-is-calls : LogIsCalls
+  pub cut-log-is-calls : CutLogIsCalls
 
 -- demand 3: the parts equal the whole, and our slots lie in the plan's windows
 pub record Adds : Type 0 where
@@ -52,6 +57,8 @@ pub record Adds : Type 0 where
   pub each-call : CallKeeps
   pub none-after-a-plan : PlanLeavesNone
   pub windows : OwnInWindows
+  pub last-line : LastLineSumsUp
+  pub begins-new : BeginIsNew
 
 -- each call has one answer, and leaves one content of everything lent
 pub record Once : Type 0 where

@@ -3,5 +3,6 @@ pub mod Contracts
 pub mod Deed
 pub mod Examples
 pub mod History
+pub mod Logs
 pub mod Tallies
 pub mod Windows
