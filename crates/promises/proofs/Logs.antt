@@ -26,7 +26,7 @@ use Rattle.calls.specs.Calls.{begin, sum, called}
 use Rattle.logrecords.specs.LogRecords.{wordAt, shortBy}
 use Rattle.logrecords.specs.Pieces.{endsInside, isRecord}
 use Rattle.logrecords.proofs.Pieces.{eventIn, pieceBy, by-bytes}
-use Rattle.lines.specs.Lines.{line, refusedWord, sumWord, refusedLine, sumLine, lineBy, lineOf}
+use Rattle.lines.specs.Lines.{line, sumWord, refusedLine, sumLine, lineBy, lineOf}
 use Rattle.journal.specs.declared.Next.{Next}
 use Rattle.journal.specs.Journal.{Run, startOf, one, refusal, waiting, calledBy, calledIn, ran, nextWhole, wholeRun}
 use Rattle.journal.specs.Promises.{joined}
