@@ -220,7 +220,7 @@ passes-add s j zero = ap (passes s) (add-zero j)
 passes-add s j (suc k) = ap (passes s) (add-suc j k) ∙ ap passed (passes-add s j k)
 
 -- with its lengths a call is what it does once the slots have passed
-called-sized : (s : State) (n : ℕ) (bytes : List ℕ) (q : What) → sized s ≡ true → called s n bytes q ≡ done q (passes s n) bytes
+pub called-sized : (s : State) (n : ℕ) (bytes : List ℕ) (q : What) → sized s ≡ true → called s n bytes q ≡ done q (passes s n) bytes
 unfolding called
 called-sized s n bytes q e = rw (e, either-true (eqb n 0))
 

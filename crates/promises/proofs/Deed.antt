@@ -4,8 +4,8 @@ use Rattle.packet.proofs.RoundTrip as packet
 use Rattle.packet.proofs.Exactly as packet-numbers
 use Rattle.message.proofs.RoundTrip as message
 use Rattle.message.proofs.Exactly as message-numbers
-use Rattle.candidates.proofs.Promised as candidates
 use Rattle.choosing.proofs.Chosen as choosing
+use Rattle.choosing.proofs.Draws as draws
 use Rattle.choosing.proofs.HoldingOff as holding
 use Rattle.board.proofs.Once as board
 use Rattle.board.proofs.Exactly as board-numbers
@@ -16,6 +16,8 @@ use Rattle.promises.specs.Deed.{Deed}
 use Rattle.promises.proofs.Holders.{holders-by-events}
 use Rattle.promises.proofs.Counted.{tallies-are-counts, all-make-the-whole, call-keeps, plan-leaves-none}
 use Rattle.promises.proofs.Logs.{log-is-calls, cut-log-is-calls, last-line-sums-up, begin-is-new}
+use Rattle.promises.proofs.Records.{record-by-call}
+use Rattle.promises.proofs.Told.{last-message-decides}
 use Rattle.promises.proofs.Windows.{own-in-windows}
 use Rattle.promises.proofs.Twelve.{marked-examples}
 use Rattle.promises.proofs.Contracts.{by-the-code}
@@ -42,15 +44,20 @@ deed =
         message-back = message.read-after-write;
         message-again = message.write-after-read;
         holders = holders-by-events;
+        records-by-call = record-by-call;
+        last-message-decides = last-message-decides;
         picked = choosing.chosen-is-candidate;
         marks-in-the-book = choosing.marks-in-the-book;
+        equal-draws = draws.equal-draws;
+        rest-sent-back = draws.rest-sent-back;
+        none-exactly = draws.none-exactly;
+        free-are-candidates = draws.free-are-candidates;
+        held-only-under-four = draws.held-only-under-four;
+        reuse-under-four = draws.reuse-under-four;
+        farthest-first = draws.farthest-first;
+        ties-to-the-earlier = draws.ties-to-the-earlier;
+        number-of-candidates = draws.number-of-candidates;
         only-replaced-held-off = holding.only-replaced-held-off;
-        equal-draws = candidates.equal-draws-each;
-        rest-sent-back = candidates.rest-sent-back;
-        none-exactly = candidates.none-exactly;
-        reused-only-under-four = candidates.held-only-under-four;
-        farthest-first = candidates.farthest-first;
-        ties-to-the-earlier = candidates.ties-to-the-earlier;
         cut-anywhere = journal.however-cut;
         sum-is-last = journal.sum-is-last;
         log-is-calls = log-is-calls;

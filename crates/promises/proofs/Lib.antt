@@ -17,7 +17,9 @@ pub mod Ours
 pub mod Passing
 pub mod Places
 pub mod Planning
+pub mod Records
 pub mod Stands
+pub mod Told
 pub mod Twelve
 pub mod Windows
 pub mod Written

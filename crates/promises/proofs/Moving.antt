@@ -41,11 +41,11 @@ use Rattle.promises.proofs.Choosing.{choose-moves}
 -- ---- answers that go by tests
 
 -- P is of what is given where a test does not hold
-abbrev Each : (Answered → Type 0) → List (Bool × Answered) → Type 0
+abbrev pub Each : (Answered → Type 0) → List (Bool × Answered) → Type 0
 Each P [] = Unit {0}
 Each P (t ∷ ts) = P (t .1) × Each P ts
 
-by-tests : (P : Answered → Type 0) (ts : List (Bool × Answered)) (x : Answered) → Each P ts → (AllHold ts → P x) → P (ladder ts x)
+pub by-tests : (P : Answered → Type 0) (ts : List (Bool × Answered)) (x : Answered) → Each P ts → (AllHold ts → P x) → P (ladder ts x)
 by-tests P [] x n y = y tt
 by-tests P ((true, z) ∷ []) x n y = y refl
 by-tests P ((false, z) ∷ []) x n y = n .0

@@ -2,14 +2,14 @@
 -- Assumes nothing.
 use Rattle.packet.specs.Promises as packet
 use Rattle.message.specs.Promises as message
-use Rattle.candidates.specs.Promises as candidates
-use Rattle.choosing.specs.ChoosePromises as choosing-call
+use Rattle.choosing.specs.ChoosePromises as choosing
 use Rattle.board.specs.Promises as board
 use Rattle.calls.specs.Promises as calls
 use Rattle.logrecords.specs.Promises as logrecords
 use Rattle.journal.specs.Promises as journal
 use Rattle.promises.specs.Contracts.{ByTheCode}
 use Rattle.promises.specs.History.{HoldersByEvents}
+use Rattle.promises.specs.Records.{RecordByCall, LastMessageDecides}
 use Rattle.promises.specs.Tallies.{TalliesAreCounts, AllMakeTheWhole, CallKeeps, PlanLeavesNone}
 use Rattle.promises.specs.Logs.{LogIsCalls, CutLogIsCalls, LastLineSumsUp, BeginIsNew}
 use Rattle.promises.specs.Windows.{OwnInWindows}
@@ -26,25 +26,30 @@ pub record Refuses : Type 0 where
   pub board-message-written : board.MessageWriteExactly
   pub board-message-read : board.MessageReadExactly
   pub called : calls.RefusesExactly
-  pub never-beyond : choosing-call.NeverBeyond
+  pub never-beyond : choosing.NeverBeyond
   pub log : logrecords.LogExactly
 
--- demand 2: packets and messages both ways, the holder of every slot time, the draw, and a log cut anywhere
+-- demand 2: packets and messages both ways, the holder of every slot time, what is known of a station, the draw, and a log cut anywhere
 pub record Agrees : Type 0 where
   pub packet-back : packet.ReadAfterWrite
   pub packet-again : packet.WriteAfterRead
   pub message-back : message.ReadAfterWrite
   pub message-again : message.WriteAfterRead
   pub holders : HoldersByEvents
-  pub picked : choosing-call.ChosenIsCandidate
-  pub marks-in-the-book : choosing-call.MarksInTheBook
-  pub only-replaced-held-off : choosing-call.OnlyReplacedHeldOff
-  pub equal-draws : candidates.EqualDraws
-  pub rest-sent-back : candidates.RestSentBack
-  pub none-exactly : candidates.NoneExactly
-  pub reused-only-under-four : candidates.HeldOnlyUnderFour
-  pub farthest-first : candidates.FarthestFirst
-  pub ties-to-the-earlier : candidates.TiesToTheEarlier
+  pub records-by-call : RecordByCall
+  pub last-message-decides : LastMessageDecides
+  pub picked : choosing.ChosenIsCandidate
+  pub marks-in-the-book : choosing.MarksInTheBook
+  pub equal-draws : choosing.EqualDraws
+  pub rest-sent-back : choosing.RestSentBack
+  pub none-exactly : choosing.NoneExactly
+  pub free-are-candidates : choosing.FreeAreCandidates
+  pub held-only-under-four : choosing.HeldOnlyUnderFour
+  pub reuse-under-four : choosing.ReuseUnderFour
+  pub farthest-first : choosing.FarthestFirst
+  pub ties-to-the-earlier : choosing.TiesToTheEarlier
+  pub number-of-candidates : choosing.NumberOfCandidates
+  pub only-replaced-held-off : choosing.OnlyReplacedHeldOff
   pub cut-anywhere : journal.HoweverCut
   pub sum-is-last : journal.SumIsLast
   pub log-is-calls : LogIsCalls

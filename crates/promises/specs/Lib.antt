@@ -4,5 +4,6 @@ pub mod Deed
 pub mod Examples
 pub mod History
 pub mod Logs
+pub mod Records
 pub mod Tallies
 pub mod Windows
