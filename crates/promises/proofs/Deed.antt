@@ -60,6 +60,7 @@ deed =
         only-replaced-held-off = holding.only-replaced-held-off;
         cut-anywhere = journal.however-cut;
         sum-is-last = journal.sum-is-last;
+        step-is-part = journal.step-is-part;
         log-is-calls = log-is-calls;
         cut-log-is-calls = cut-log-is-calls;
       };

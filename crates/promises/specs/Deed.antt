@@ -52,6 +52,7 @@ pub record Agrees : Type 0 where
   pub only-replaced-held-off : choosing.OnlyReplacedHeldOff
   pub cut-anywhere : journal.HoweverCut
   pub sum-is-last : journal.SumIsLast
+  pub step-is-part : journal.StepIsPart
   pub log-is-calls : LogIsCalls
   pub cut-log-is-calls : CutLogIsCalls
 
