@@ -3,7 +3,7 @@
 use mathlib.Core.Path.{_≡_, sym, ap, ap₂, _∙_}
 use mathlib.Core.Bool.{true}
 use mathlib.Core.List.{List, [], _++_, append-assoc, append-nil}
-use Prim.Native.Nat.{ℕ, _+_, _-_, _*_, _%_, _^_, _≤_, _<_}
+use Prim.Native.Nat.{ℕ, _+_, _-_, _*_, _/_, _%_, _^_, _≤_, _<_}
 use native.Mathlib.Nat.{mod-eq-of-lt}
 use native.Mathlib.Omega.{arith}
 use lib.ListN.{length, take, drop, length-take, length-drop, length-append, take-append-drop}
@@ -12,7 +12,7 @@ use Rattle.laws.specs.Lists.{AllBytes}
 use Rattle.laws.proofs.Lists.{take-middle, take-within, three-parts}
 use Rattle.bits.specs.Bits.{highFirst, highValue, allBits}
 use Rattle.bits.specs.Field.{bitsOf, packed, fieldOf, spliced, putField}
-use Rattle.bits.proofs.Bits.{allBits-append, allBits-take, allBits-drop, high-bits, length-highFirst, high-back, high-bound, value-high}
+use Rattle.bits.proofs.Bits.{allBits-append, allBits-take, allBits-drop, high-bits, length-highFirst, high-append, high-back, high-bound, value-high}
 use Rattle.bits.proofs.Bytes.{joined-append, length-joined, joined-bits, eights-joined, joined-eights}
 
 -- ---- bytes as bits and back
@@ -73,6 +73,30 @@ field-there l pre post at w v e bits =
     ap (λ (t : List ℕ). highValue 0 (take w (drop at t))) bits ∙ ap (highValue 0) (take-middle pre (highFirst w v) post at w e (length-highFirst w v))
     ∙ value-high w v 0 ∙ omega arith
 
+pub length-field : (l : List ℕ) (at w : ℕ) → at + w ≤ 8 * length l → length (take w (drop at (bitsOf l))) ≡ w
+length-field l at w h = length-take-le w (drop at (bitsOf l)) (omega (arith, length-drop at (bitsOf l), length-bits l))
+
+pub field-bits : (l : List ℕ) (at w : ℕ) → at + w ≤ 8 * length l → highFirst w (fieldOf l at w) ≡ take w (drop at (bitsOf l))
+unfolding fieldOf
+field-bits l at w h =
+    let part = take w (drop at (bitsOf l)) in
+    ap (λ (k : ℕ). highFirst k (highValue 0 part)) (sym (length-field l at w h)) ∙ high-back part 0 (allBits-take w (drop at (bitsOf l)) (allBits-drop at (bitsOf l) (bits-are l)))
+
+-- a part of a field: w bits, with i of the field's before them and j after them
+pub field-part : (l : List ℕ) (at i w j : ℕ) → at + (i + w + j) ≤ 8 * length l → fieldOf l (at + i) w ≡ fieldOf l at (i + w + j) / 2 ^ j % 2 ^ w
+unfolding fieldOf
+field-part l at i w j h =
+    let v = fieldOf l at (i + w + j) in
+    let from-at = drop at (bitsOf l) in
+    let part = take (i + w + j) from-at in
+    let apart : part ≡ highFirst i (v / 2 ^ j / 2 ^ w) ++ highFirst w (v / 2 ^ j) ++ highFirst j v =
+    sym (field-bits l at (i + w + j) h) ∙ high-append (i + w) j v ∙ ap (_++ highFirst j v) (high-append i w (v / 2 ^ j)) in
+    let here : take w (drop i from-at) ≡ take w (drop i part) =
+    ap (λ (t : List ℕ). take w (drop i t)) (sym (take-append-drop (i + w + j) from-at)) ∙ take-within part (drop (i + w + j) from-at) i w (omega (arith, length-field l at (i + w + j) h)) in
+    ap (λ (t : List ℕ). highValue 0 (take w t)) (sym (drop-drop i at (bitsOf l)))
+    ∙ ap (highValue 0) (here ∙ ap (λ (t : List ℕ). take w (drop i t)) apart ∙ take-middle (highFirst i (v / 2 ^ j / 2 ^ w)) (highFirst w (v / 2 ^ j)) (highFirst j v) i w (length-highFirst i (v / 2 ^ j / 2 ^ w)) (length-highFirst w (v / 2 ^ j)))
+    ∙ value-high w (v / 2 ^ j) 0 ∙ omega arith
+
 module _ (l : List ℕ) (at w v : ℕ) (fits : at + w ≤ 8 * length l) where
   inside : at + w ≤ length (bitsOf l)
   inside = omega (arith, length-bits l)
@@ -109,11 +133,8 @@ module _ (l : List ℕ) (at w v : ℕ) (fits : at + w ≤ 8 * length l) where
       ∙ ap (λ (t : List ℕ). highValue 0 (take n t)) (past (spliced b at w v) ∙ ap (drop (i - (at + w))) same ∙ sym (past b))
 
 pub put-get : (l : List ℕ) (at w : ℕ) → AllBytes l → at + w ≤ 8 * length l → putField l at w (fieldOf l at w) ≡ l
-unfolding putField fieldOf spliced
+unfolding putField spliced
 put-get l at w bytes fits =
-    let part = take w (drop at (bitsOf l)) in
-    let long : length part ≡ w = length-take-le w (drop at (bitsOf l)) (omega (arith, length-drop at (bitsOf l), length-bits l)) in
-    let same : highFirst w (highValue 0 part) ≡ part = rw long at (high-back part 0 (allBits-take w (drop at (bitsOf l)) (allBits-drop at (bitsOf l) (bits-are l)))) in
-    ap (λ (b : List ℕ). packed (length l) (take at (bitsOf l) ++ b ++ drop (at + w) (bitsOf l))) same
+    ap (λ (b : List ℕ). packed (length l) (take at (bitsOf l) ++ b ++ drop (at + w) (bitsOf l))) (field-bits l at w fits)
     ∙ ap (packed (length l)) (sym (three-parts (bitsOf l) at w))
     ∙ packed-bits l bytes

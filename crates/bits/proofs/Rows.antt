@@ -22,7 +22,7 @@ use Rattle.bits.specs.Row.{laid, widthOf, allFit, layOver, rowAt, widths
 use Rattle.bits.specs.declared.reader.Four.{Four}
 use Rattle.bits.proofs.Bits.{both-both, allBits-end, allBits-append, allBits-take, allBits-drop, high-bits, length-highFirst, high-append, high-low, high-back}
 use Rattle.bits.proofs.Bytes.{length-eights}
-use Rattle.bits.proofs.Fields.{length-bits, bits-are, bits-append, bits-packed, packed-bits, field-there}
+use Rattle.bits.proofs.Fields.{length-bits, bits-are, bits-append, bits-packed, packed-bits, field-there, field-bits}
 
 -- ---- the bits of a row
 
@@ -250,19 +250,11 @@ row-laid ((w, v) ∷ fs) l pre post at e bits fit =
     let more : bitsOf l ≡ pre ++ highFirst w v ++ laid fs ++ post = seen ∙ sym (append-assoc (pre ++ highFirst w v) (laid fs) post) in
     ap₂ (λ (x : ℕ) (t : List (ℕ × ℕ)). (w, x) ∷ t) here (row-laid fs l (pre ++ highFirst w v) post (at + w) next more (f .1))
 
-field-bits : (l : List ℕ) (at w : ℕ) → length (take w (drop at (bitsOf l))) ≡ w → highFirst w (fieldOf l at w) ≡ take w (drop at (bitsOf l))
-unfolding fieldOf
-field-bits l at w e =
-    let part = take w (drop at (bitsOf l)) in
-    ap (λ (k : ℕ). highFirst k (highValue 0 part)) (sym e) ∙ high-back part 0 (allBits-take w (drop at (bitsOf l)) (allBits-drop at (bitsOf l) (bits-are l)))
-
 -- what was read and is laid is what stood there
 pub laid-row : (ws : List ℕ) (at : ℕ) (l : List ℕ) → at + widthOf (rowAt ws at l) ≤ 8 * length l → laid (rowAt ws at l) ≡ take (widthOf (rowAt ws at l)) (drop at (bitsOf l))
 unfolding rowAt laid widthOf
 laid-row [] at l h = refl
 laid-row (w ∷ ws) at l h =
     let rest = widthOf (rowAt ws (at + w) l) in
-    let part : length (take w (drop at (bitsOf l))) ≡ w = length-take-le w (drop at (bitsOf l)) (omega (arith, length-drop at (bitsOf l), length-bits l)) in
-    let here : highFirst w (fieldOf l at w) ≡ take w (drop at (bitsOf l)) = field-bits l at w part in
-    ap₂ _++_ here (laid-row ws (at + w) l (omega arith) ∙ ap (take rest) (sym (drop-drop w at (bitsOf l))))
+    ap₂ _++_ (field-bits l at w (omega arith)) (laid-row ws (at + w) l (omega arith) ∙ ap (take rest) (sym (drop-drop w at (bitsOf l))))
     ∙ sym (take-add w rest (drop at (bitsOf l)))

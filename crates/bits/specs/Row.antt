@@ -38,6 +38,14 @@ unfoldable pub widthsOf : List (ℕ × ℕ) → List ℕ
 widthsOf [] = []
 widthsOf (f ∷ fs) = f .0 ∷ widthsOf fs
 
+-- the four fields of these widths that stand from bit at on
+abbrev pub fourAt : List ℕ → ℕ → ℕ → ℕ → ℕ → ℕ → Four
+fourAt l at a b c d = record { a = fieldOf l at a; b = fieldOf l (at + a) b; c = fieldOf l (at + a + b) c; d = fieldOf l (at + a + b + c) d }
+
+-- what a reader has read before the first four
+abbrev pub nothingRead : Four
+nothingRead = record { a = 0; b = 0; c = 0; d = 0 }
+
 -- four numbers, of these widths
 abbrev pub fourRow : Four → ℕ → ℕ → ℕ → ℕ → List (ℕ × ℕ)
 fourRow f a b c d = (a, f .a) ∷ (b, f .b) ∷ (c, f .c) ∷ (d, f .d) ∷ []

@@ -1,15 +1,11 @@
-// A reader: bytes and the position of the next bit, kept together. Promise: a field is read where the reader stands, and it stands
-// right after the field then.
+// A reader: bytes and the position of the next bit, kept together. Promise: four fields are read where the reader stands, and it stands
+// right after them then.
 ghost use mathlib.Core.Path.{_≡_};
 ghost use Prim.Native.Nat.{_+_, _*_, _^_, _≤_, _<_};
 ghost use lib.ListN.{length};
-ghost use Rattle.bits.specs.Field.{fieldOf, Widths};
+ghost use Rattle.bits.specs.Field.{Widths};
+ghost use Rattle.bits.specs.Row.{fourAt, nothingRead};
 use crate::field::field;
-
-pub struct Reader<'a> {
-    pub bytes: &'a [u8],
-    pub at: usize,
-}
 
 // Four fields in a row.
 pub struct Four {
@@ -19,54 +15,53 @@ pub struct Four {
     pub d: u32,
 }
 
-pub fn start<'a>(bytes: &'a [u8], at: usize) -> Reader<'a>
-    ensures { λ r. ⌜ r ≡ record { bytes = bytes .entry; at = at } ⌝ }
-{
-    Reader { bytes, at }
+pub struct Reader<'a> {
+    pub bytes: &'a [u8],
+    pub at: usize,
+    // what was read last; zeros before
+    pub four: Four,
 }
 
-pub fn position<'a>(r: Reader<'a>) -> usize
-    ensures { λ n. ⌜ n ≡ r .entry .at ⌝ }
+// Four fields in a row from bit at on, of these widths.
+pub fn four_fields(bytes: &[u8], at: usize, a: usize, b: usize, c: usize, d: usize) -> Four
+    requires { ⌜ (8 ≤ length (now bytes)) × Widths a b c d × (at + a + b + c + d < 2 ^ 64) × (at + a + b + c + d ≤ 8 * length (now bytes)) ⌝ }
+    ensures { λ r. ⌜ r ≡ fourAt (now (bytes .entry)) at a b c d ⌝ }
 {
-    r.at
-}
-
-// The field of so many bits where the reader stands.
-pub fn next<'a>(r: Reader<'a>, width: usize) -> u32
-    requires { ⌜ (8 ≤ length (now (r .bytes))) × (1 ≤ width) × (width ≤ 32) × (r .at + width ≤ 8 * length (now (r .bytes))) ⌝ }
-    ensures { λ v. ⌜ v ≡ fieldOf (now (r .entry .bytes)) (r .entry .at) width ⌝ }
-{
-    field(r.bytes, r.at, width)
-}
-
-// The reader so many bits on.
-pub fn moved<'a>(r: Reader<'a>, width: usize) -> Reader<'a>
-    requires { ⌜ r .at + width < 2 ^ 64 ⌝ }
-    ensures { λ q. ⌜ q ≡ record { bytes = r .entry .bytes; at = r .entry .at + width } ⌝ }
-{
-    Reader {
-        bytes: r.bytes,
-        at: r.at + width,
+    let second = at + a;
+    let third = second + b;
+    let fourth = third + c;
+    Four {
+        a: field(bytes, at, a),
+        b: field(bytes, second, b),
+        c: field(bytes, third, c),
+        d: field(bytes, fourth, d),
     }
 }
 
-// Four fields in a row from bit at on, of these widths: what reading a message goes by. That a position fits a usize is asked: of 2 ^ 61 bytes
-// and more it need not.
-pub fn take_four(bytes: &[u8], at: usize, a: usize, b: usize, c: usize, d: usize) -> Four
-    requires { ⌜ (8 ≤ length (now bytes)) × Widths a b c d × (at + a + b + c < 2 ^ 64) × (at + a + b + c + d ≤ 8 * length (now bytes)) ⌝ }
-    ensures { λ r. ⌜ (r .a ≡ fieldOf (now (bytes .entry)) at a) × (r .b ≡ fieldOf (now (bytes .entry)) (at + a) b) × (r .c ≡ fieldOf (now (bytes .entry)) (at + a + b) c) × (r .d ≡ fieldOf (now (bytes .entry)) (at + a + b + c) d) ⌝ }
+// Before the first bit.
+pub fn start<'a>(bytes: &'a [u8]) -> Reader<'a>
+    ensures { λ r. ⌜ r ≡ record { bytes = bytes .entry; at = 0; four = nothingRead } ⌝ }
 {
-    let mut r = start(bytes, at);
-    let x = next(r, a);
-    r = moved(r, a);
-    let y = next(r, b);
-    r = moved(r, b);
-    let z = next(r, c);
-    r = moved(r, c);
-    Four {
-        a: x,
-        b: y,
-        c: z,
-        d: next(r, d),
+    Reader {
+        bytes,
+        at: 0,
+        four: Four {
+            a: 0,
+            b: 0,
+            c: 0,
+            d: 0,
+        },
+    }
+}
+
+// The reader after the next four fields, of these widths, with what they say. That a position fits a usize is asked: of 2 ^ 61 bytes and more it need not.
+pub fn take<'a>(r: Reader<'a>, a: usize, b: usize, c: usize, d: usize) -> Reader<'a>
+    requires { ⌜ (8 ≤ length (now (r .bytes))) × Widths a b c d × (r .at + a + b + c + d < 2 ^ 64) × (r .at + a + b + c + d ≤ 8 * length (now (r .bytes))) ⌝ }
+    ensures { λ q. ⌜ q ≡ record { bytes = r .entry .bytes; at = r .entry .at + a + b + c + d; four = fourAt (now (r .entry .bytes)) (r .entry .at) a b c d } ⌝ }
+{
+    Reader {
+        bytes: r.bytes,
+        at: r.at + a + b + c + d,
+        four: four_fields(r.bytes, r.at, a, b, c, d),
     }
 }

@@ -1,9 +1,8 @@
 // The numbers of a message, straight from its bytes into a lent list. Promise: they are `numbersOf` the message (specs/Listing.antt).
 ghost use mathlib.Core.Path.{_≡_};
-ghost use mathlib.Core.Bool.{true, false};
+ghost use mathlib.Core.Bool.{true};
 ghost use mathlib.Core.List.{[], _∷_};
 ghost use Prim.Native.Nat.{_+_, _≤_, _<_};
-ghost use lib.Dec.{eqb};
 ghost use lib.IntN.{pos};
 ghost use lib.ListN.{length};
 ghost use lib.Seq.{sets};
@@ -11,18 +10,18 @@ ghost use Rattle.laws.specs.Tests.{between};
 ghost use Rattle.limits.specs.Limits.{messageBytes, listPlaces};
 ghost use Rattle.bits.specs.Row.{allFit};
 ghost use Rattle.message.specs.Message.{idIn, messageOf};
-ghost use Rattle.message.specs.Sheet.{HeadOf};
-ghost use Rattle.message.specs.State.{clockOf, organisedOf, incrementalRow};
+ghost use Rattle.message.specs.Sheet.{clockFrom, organisedFrom};
+ghost use Rattle.message.specs.State.{incrementalRow};
 ghost use Rattle.message.specs.declared.state.SubMessage.the-variants.{Time};
 ghost use Rattle.listing.specs.Listing.{reportNumbers, baseNumbers, subNumbers, organisedNumbers, incrementalNumbers, Lists, Small, SmallReport, SmallBase};
-use bits::reader::Four;
-use bits::reader::take_four;
 use message::Base;
 use message::Report;
 use message::reading::base_in;
 use message::reading::report_in;
 use message::state::Incremental;
 use message::state::State;
+use message::state::clock_in;
+use message::state::organised_parts;
 use message::state::state_in;
 
 fn put_one(out: &mut [i32], at: usize, a: i32)
@@ -84,28 +83,28 @@ fn put_base(b: Base, out: &mut [i32])
     put_plains(out, 12, b.fix, b.control, b.spare, b.raim);
 }
 
-// The clock of time-out 1.
-fn put_clock(bytes: &[u8], out: &mut [i32], at: usize) -> u32
-    requires { ⌜ (length (now bytes) ≡ messageBytes) × (at < 2147483648) × (at + 4 ≤ length (now out)) ⌝ }
-    ensures { λ r. ⌜ (r ≡ at + 4) × (now (out .exit) ≡ sets (now (out .entry)) at (subNumbers (Time (clockOf (now (bytes .entry)))))) ⌝ }
+// The clock of time-out 1, of 14 bits.
+fn put_clock(v: u32, out: &mut [i32], at: usize) -> u32
+    requires { ⌜ (at < 2147483648) × (at + 4 ≤ length (now out)) ⌝ }
+    ensures { λ r. ⌜ (r ≡ at + 4) × (now (out .exit) ≡ sets (now (out .entry)) at (subNumbers (Time (clockFrom v)))) ⌝ }
 {
-    let f = take_four(bytes, 151, 3, 5, 7, 2);
-    put_plains(out, at, 1, f.b, f.c, f.d);
+    let c = clock_in(v);
+    put_plains(out, at, 1, c.hour, c.minute, c.unused);
     (at + 4) as u32
 }
 
-// The self-organised state: how many numbers stand in the list then.
-fn put_organised(bytes: &[u8], out: &mut [i32], at: usize) -> u32
-    requires { ⌜ (length (now bytes) ≡ messageBytes) × (at < 2147483647) × (at + 5 ≤ length (now out)) ⌝ }
-    ensures { λ r. ⌜ (r ≡ at + length (organisedNumbers (organisedOf (now (bytes .entry))))) × (now (out .exit) ≡ sets (now (out .entry)) at (organisedNumbers (organisedOf (now (bytes .entry))))) ⌝ }
+// The self-organised state of 19 bits: how many numbers stand in the list then.
+fn put_organised(v: u32, out: &mut [i32], at: usize) -> u32
+    requires { ⌜ (at < 2147483647) × (at + 5 ≤ length (now out)) ⌝ }
+    ensures { λ r. ⌜ (r ≡ at + length (organisedNumbers (organisedFrom v))) × (now (out .exit) ≡ sets (now (out .entry)) at (organisedNumbers (organisedFrom v))) ⌝ }
 {
-    let f = take_four(bytes, 148, 1, 2, 3, 14);
-    out[at] = f.b as i32;
+    let f = organised_parts(v);
+    out[at] = f.a as i32;
     let next = at + 1;
-    if f.c == 1 {
-        return put_clock(bytes, out, next);
+    if f.b == 1 {
+        return put_clock(f.c, out, next);
     }
-    put_plain(out, next, f.c, f.d);
+    put_plain(out, next, f.b, f.c);
     (at + 3) as u32
 }
 
@@ -117,30 +116,31 @@ fn put_incremental(s: Incremental, out: &mut [i32]) -> u32
     19
 }
 
-// Of another message than 3.
-fn list_organised(bytes: &[u8], head: Four, out: &mut [i32]) -> u32
-    requires { ⌜ (length (now bytes) ≡ messageBytes) × HeadOf (now bytes) head × (between 1 4 (idIn (now bytes)) ≡ true) × (eqb (idIn (now bytes)) 3 ≡ false) × (listPlaces ≤ length (now out)) ⌝ }
+fn list_base(bytes: &[u8], out: &mut [i32]) -> u32
+    requires { ⌜ (length (now bytes) ≡ messageBytes) × (idIn (now bytes) ≡ 4) × (listPlaces ≤ length (now out)) ⌝ }
     ensures { λ r. ⌜ Lists (messageOf (now (bytes .entry))) (now (out .entry)) r (now (out .exit)) ⌝ }
 {
-    let id = head.a;
-    if id == 4 {
-        put_base(base_in(bytes), out);
-        return put_organised(bytes, out, 16);
-    }
-    put_report(id, report_in(bytes, head), out);
-    put_organised(bytes, out, 15)
+    let x = base_in(bytes);
+    let base = x.base;
+    put_base(base, out);
+    put_organised(x.state, out, 16)
 }
 
-// The numbers of the message in 21 bytes, whose first fields have been read, in the first places of out: how many. It goes straight from the
-// bytes to the list; with the message made between them it took three times as long. Message 3 alone carries the incremental state.
-pub fn list(bytes: &[u8], head: Four, out: &mut [i32]) -> u32
-    requires { ⌜ (length (now bytes) ≡ messageBytes) × HeadOf (now bytes) head × (between 1 4 (idIn (now bytes)) ≡ true) × (listPlaces ≤ length (now out)) ⌝ }
+// The numbers of the message in 21 bytes, whose id is known, in the first places of out: how many. It goes straight from the bytes to the list; with
+// the message made between them it took three times as long. Message 3 alone carries the incremental state.
+pub fn list(bytes: &[u8], id: u32, out: &mut [i32]) -> u32
+    requires { ⌜ (length (now bytes) ≡ messageBytes) × (id ≡ idIn (now bytes)) × (between 1 4 (idIn (now bytes)) ≡ true) × (listPlaces ≤ length (now out)) ⌝ }
     ensures { λ r. ⌜ Lists (messageOf (now (bytes .entry))) (now (out .entry)) r (now (out .exit)) ⌝ }
 {
-    let state = state_in(bytes, head.a);
+    if id == 4 {
+        return list_base(bytes, out);
+    }
+    let x = report_in(bytes);
+    let report = x.report;
+    put_report(id, report, out);
+    let state = state_in(id, x.state);
     let State::Incremental(s) = state else {
-        return list_organised(bytes, head, out);
+        return put_organised(x.state, out, 15);
     };
-    put_report(3, report_in(bytes, head), out);
     put_incremental(s, out)
 }

@@ -3,4 +3,5 @@ pub mod Examples
 pub mod Exactly
 pub mod Readings
 pub mod RoundTrip
+pub mod Through
 pub mod Writings

@@ -36,7 +36,7 @@ use Rattle.message.specs.declared.state.SubMessage.the-variants.{Offset,
 use Rattle.message.specs.declared.state.SelfOrganised.{SelfOrganised}
 use Rattle.message.specs.declared.state.Incremental.{Incremental}
 use Rattle.message.proofs.Complement.{unsigned-signed, signed-unsigned}
-use Rattle.message.proofs.Readings.{sub-slot, sub-stations, read-good}
+use Rattle.message.proofs.Readings.{sub-slot, sub-stations, sub-is, read-good}
 use Rattle.message.proofs.Exactly.{received-exactly, written-exactly}
 
 -- ---- rows
@@ -130,12 +130,12 @@ module _ (l : List ℕ) where
   sub-read (Slot c) e =
       let t = 2 + 2 * c .pairs in
       let p : (t - 2) / 2 ≡ c .pairs = omega arith in
-      sym (sub-slot l t (fieldOf l 154 14) refl (λ z. omega arith) (λ o. omega arith) (omega arith))
+      sym (sub-slot t (fieldOf l 154 14) (clockOf l) (λ z. omega arith) (λ o. omega arith) (omega arith) ∙ sub-is l t)
       ∙ ap Slot (λ j. record { pairs = p j; number = ap (nth 0) e j })
   sub-read (Stations c) e =
       let t = 3 + 2 * c .pairs in
       let p : (t - 3) / 2 ≡ c .pairs = omega arith in
-      sym (sub-stations l t (fieldOf l 154 14) refl (λ z. omega arith) (λ o. omega arith) (λ m. omega arith))
+      sym (sub-stations t (fieldOf l 154 14) (clockOf l) (λ z. omega arith) (λ o. omega arith) (λ m. omega arith) ∙ sub-is l t)
       ∙ ap Stations (λ j. record { pairs = p j; number = ap (nth 0) e j })
 
   organised-read : (s : SelfOrganised) → rowAt (widthsOf (organisedRow s)) 149 l ≡ organisedRow s → organisedOf l ≡ s
@@ -176,8 +176,8 @@ module _ (l : List ℕ) where
 
   sub-counted : (t : ℕ) → 2 ≤ t → Dec (t % 2 ≡ 0) → (timeOutOf (subOf l t) ≡ t) × Stands l 154 (subRow (subOf l t))
   unfolding Stands rowAt
-  sub-counted t h (yes m) = rw (← sub-slot l t (fieldOf l 154 14) refl (λ z. omega arith) (λ o. omega arith) m) (omega arith, (14 ∷ [], refl))
-  sub-counted t h (no m) = rw (← sub-stations l t (fieldOf l 154 14) refl (λ z. omega arith) (λ o. omega arith) m) (omega arith, (14 ∷ [], refl))
+  sub-counted t h (yes m) = rw (← sub-slot t (fieldOf l 154 14) (clockOf l) (λ z. omega arith) (λ o. omega arith) m ∙ sub-is l t) (omega arith, (14 ∷ [], refl))
+  sub-counted t h (no m) = rw (← sub-stations t (fieldOf l 154 14) (clockOf l) (λ z. omega arith) (λ o. omega arith) m ∙ sub-is l t) (omega arith, (14 ∷ [], refl))
 
   sub-again : (t : ℕ) → (timeOutOf (subOf l t) ≡ t) × Stands l 154 (subRow (subOf l t))
   unfolding Stands rowAt subOf clockOf

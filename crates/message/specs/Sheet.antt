@@ -1,19 +1,19 @@
 -- The fields of a message four in a row, by which the code reads and writes them: the words for its contracts, not for what is promised.
 -- Assumes nothing.
-use Prim.Native.Nat.{ℕ, _+_, _*_}
+use Prim.Native.Nat.{ℕ, _+_, _-_, _*_, _/_, _%_}
 use mathlib.Core.Path.{_≡_}
 use mathlib.Core.Bool.{Bool, true, false}
 use mathlib.Core.List.{List, _++_}
-use lib.Dec.{leb}
+use lib.Dec.{eqb, leb}
 use lib.ListN.{length}
 use Rattle.laws.specs.Tests.{both, pick, between}
 use Rattle.limits.specs.Limits.{messageBytes}
 use Rattle.bits.specs.Field.{fieldOf}
-use Rattle.bits.specs.Row.{allFit, fourRow}
+use Rattle.bits.specs.Row.{allFit, fourAt, fourRow}
 use Rattle.bits.specs.declared.reader.Four.{Four}
 use Rattle.message.specs.Signs.{unsignedOf}
-use Rattle.message.specs.State.{organisedOf, incrementalOf, timeOutOf}
-use Rattle.message.specs.Message.{idIn, readAnswer}
+use Rattle.message.specs.State.{timeOutOf}
+use Rattle.message.specs.Message.{idIn, reportOf, baseOf, readAnswer}
 use Rattle.message.specs.declared.Report.{Report}
 use Rattle.message.specs.declared.Base.{Base}
 use Rattle.message.specs.declared.Message.{Message}
@@ -28,25 +28,75 @@ use Rattle.message.specs.declared.state.State.the-variants.{SelfOrganise
 use Rattle.message.specs.declared.Received.the-variants.{Refused}
 use Rattle.message.specs.declared.reading.Head.{Head}
 use Rattle.message.specs.declared.reading.Head.the-variants.{Known as Begun, Refused as NoHead}
+use Rattle.message.specs.declared.reading.Fields.{Fields}
+use Rattle.message.specs.declared.reading.ReportRead.{ReportRead}
+use Rattle.message.specs.declared.reading.BaseRead.{BaseRead}
 use Rattle.message.specs.declared.writing.Rows.{Rows}
 use Rattle.message.specs.declared.writing.Sheet.{Sheet}
 use Rattle.message.specs.declared.writing.Sheet.the-variants.{Known, Unknown}
 
 -- ---- what has been read
 
--- id, repeat, source and status
-abbrev pub HeadOf : List ℕ → Four → Type 0
-HeadOf l f = (f .a ≡ idIn l) × (f .b ≡ fieldOf l 6 2) × (f .c ≡ fieldOf l 8 30) × (f .d ≡ fieldOf l 38 4)
-
--- what `head_of` gives: the first fields of a message that can be read, or what reading gives
+-- what `head_of` gives: the id of a message that can be read, or what reading gives
 abbrev pub Heads : List ℕ → Head → Type 0
-Heads l (Begun f) = (length l ≡ messageBytes) × (between 1 4 (idIn l) ≡ true) × HeadOf l f
+Heads l (Begun id) = (length l ≡ messageBytes) × (between 1 4 (idIn l) ≡ true) × (id ≡ idIn l)
 Heads l (NoHead r) = readAnswer l ≡ Refused r
 
--- a state that stands in these bytes
-abbrev pub StandsIn : List ℕ → State → Type 0
-StandsIn l (Organised s) = s ≡ organisedOf l
-StandsIn l (Increasing s) = s ≡ incrementalOf l
+-- all fields of messages 1 to 3, and of message 4
+abbrev pub reportTaken : List ℕ → Fields
+reportTaken l = record { a = fourAt l 0 6 2 30 4; b = fourAt l 42 8 10 1 28; c = fourAt l 89 27 12 9 6; d = fourAt l 143 2 3 1 19 }
+
+abbrev pub baseTaken : List ℕ → Fields
+baseTaken l = record { a = fourAt l 0 6 2 30 14; b = fourAt l 52 4 5 5 6; c = fourAt l 72 6 1 28 27; d = fourAt l 134 4 1 9 20 }
+
+-- the state as one number
+abbrev pub stateBits : List ℕ → ℕ
+stateBits l = fieldOf l 149 19
+
+abbrev pub reportRead : List ℕ → ReportRead
+reportRead l = record { report = reportOf l; state = stateBits l }
+
+abbrev pub baseRead : List ℕ → BaseRead
+baseRead l = record { base = baseOf l; state = stateBits l }
+
+-- ---- the state of 19 bits, taken apart
+
+-- 14 bits as a clock
+abbrev pub clockFrom : ℕ → Clock
+clockFrom v = record { hour = v / 512; minute = v / 4 % 128; unused = v % 4 }
+
+-- what the time-out t says, with 14 bits as a number, v, and as a clock
+unfoldable pub subBy : ℕ → ℕ → Clock → SubMessage
+subBy t v c =
+    pick (eqb t 0) (Offset v)
+    (pick (eqb t 1) (Time c)
+    (pick (eqb (t % 2) 0) (Slot (record { pairs = (t - 2) / 2; number = v }))
+    (Stations (record { pairs = (t - 3) / 2; number = v }))))
+
+abbrev pub subFrom : ℕ → ℕ → SubMessage
+subFrom t v = subBy t v (clockFrom v)
+
+-- sync, time-out and 14 bits
+abbrev pub organisedParts : ℕ → Four
+organisedParts v = record { a = v / 131072; b = v / 16384 % 8; c = v % 16384; d = 0 }
+
+abbrev pub organisedFrom : ℕ → SelfOrganised
+organisedFrom v = record { sync = v / 131072; sub = subFrom (v / 16384 % 8) (v % 16384) }
+
+abbrev pub incrementalFrom : ℕ → Incremental
+incrementalFrom v = record { sync = v / 131072; increment = v / 16 % 8192; code = v / 2 % 8; keep = v % 2 }
+
+unfoldable pub stateFrom : ℕ → ℕ → State
+stateFrom id v = pick (eqb id 3) (Increasing (incrementalFrom v)) (Organised (organisedFrom v))
+
+-- a state that these bits say
+abbrev pub StandsIn : ℕ → State → Type 0
+StandsIn v (Organised s) = s ≡ organisedFrom v
+StandsIn v (Increasing s) = s ≡ incrementalFrom v
+
+-- message 2, or 1
+unfoldable pub oneOrTwo : ℕ → Report → SelfOrganised → Message
+oneOrTwo id r s = pick (eqb id 2) (Two r s) (One r s)
 
 -- ---- the state, of widths 2, 3, 14 and 0
 

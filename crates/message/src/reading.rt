@@ -1,120 +1,194 @@
-// A message from its 21 bytes: what it begins with, its parts, and the whole. Promise: it is `messageOf` the bytes (specs/Message.antt).
+// A message from its 21 bytes: its id, its fields by one reader that goes through all of them, and the whole. Promise: it is `messageOf` the
+// bytes (specs/Message.antt).
 ghost use mathlib.Core.Path.{_≡_};
 ghost use lib.ListN.{length};
 ghost use Rattle.limits.specs.Limits.{messageBytes};
-ghost use Rattle.message.specs.Message.{reportOf, baseOf, messageOf, organisedMessage};
-ghost use Rattle.message.specs.Sheet.{HeadOf, Heads, StandsIn};
+ghost use Rattle.message.specs.State.{organisedOf};
+ghost use Rattle.message.specs.Message.{idIn, baseOf, messageOf};
+ghost use Rattle.message.specs.Sheet.{Heads, reportTaken, baseTaken, reportRead, baseRead, organisedFrom, StandsIn, oneOrTwo};
+ghost use Rattle.message.specs.declared.Message.the-variants.{Four as Station};
 use crate::Base;
 use crate::Message;
 use crate::Report;
 use crate::signs::signed;
 use crate::state::State;
+use crate::state::organised_in;
 use crate::state::organised_of;
 use crate::state::state_in;
+use bits::field::field;
 use bits::reader::Four;
-use bits::reader::take_four;
+use bits::reader::start;
+use bits::reader::take;
 use limits::MESSAGE;
 use numbers::Refusal;
 
-// Id, repeat, source and, in messages 1 to 3, status; or why there is no message.
+// The id of a message, or why there is no message.
 pub enum Head {
-    Known(Four),
+    Known(u32),
     Refused(Refusal),
 }
 
-fn head_in(bytes: &[u8]) -> Four
-    requires { ⌜ length (now bytes) ≡ messageBytes ⌝ }
-    ensures { λ r. ⌜ HeadOf (now (bytes .entry)) r ⌝ }
-{
-    take_four(bytes, 0, 6, 2, 30, 4)
+// All fields of a message as they stand. The last one is the state, as one number, in message 4 with the bit before it.
+pub struct Fields {
+    pub a: Four,
+    pub b: Four,
+    pub c: Four,
+    pub d: Four,
 }
 
-// What a message begins with: 17, 18.
+// A report, and its state as one number.
+pub struct ReportRead {
+    pub report: Report,
+    pub state: u32,
+}
+
+pub struct BaseRead {
+    pub base: Base,
+    pub state: u32,
+}
+
+fn id_in(bytes: &[u8]) -> u32
+    requires { ⌜ length (now bytes) ≡ messageBytes ⌝ }
+    ensures { λ r. ⌜ r ≡ idIn (now (bytes .entry)) ⌝ }
+{
+    field(bytes, 0, 6)
+}
+
+// What a message is by its first bits: 17, 18.
 pub fn head_of(bytes: &[u8]) -> Head
     ensures { λ r. ⌜ Heads (now (bytes .entry)) r ⌝ }
 {
     if bytes.len() != MESSAGE {
         return Head::Refused(Refusal::MessageLength);
     }
-    let first = head_in(bytes);
-    let id = first.a;
+    let id = id_in(bytes);
     if id < 1 {
         return Head::Refused(Refusal::UnknownId);
     }
     if id > 4 {
         return Head::Refused(Refusal::UnknownId);
     }
-    Head::Known(first)
+    Head::Known(id)
 }
 
-pub fn report_in(bytes: &[u8], head: Four) -> Report
-    requires { ⌜ (length (now bytes) ≡ messageBytes) × HeadOf (now bytes) head ⌝ }
-    ensures { λ r. ⌜ r ≡ reportOf (now (bytes .entry)) ⌝ }
-{
-    let g = take_four(bytes, 42, 8, 10, 1, 28);
-    let h = take_four(bytes, 89, 27, 12, 9, 6);
-    let i = take_four(bytes, 143, 2, 3, 1, 2);
-    let turn = signed(g.a, 8);
-    let longitude = signed(g.d, 28);
-    let latitude = signed(h.a, 27);
-    Report {
-        repeat: head.b,
-        source: head.c,
-        status: head.d,
-        turn,
-        speed: g.b,
-        accuracy: g.c,
-        longitude,
-        latitude,
-        course: h.b,
-        heading: h.c,
-        second: h.d,
-        manoeuvre: i.a,
-        spare: i.b,
-        raim: i.c,
-    }
-}
-
-pub fn base_in(bytes: &[u8]) -> Base
+// The fields of messages 1 to 3.
+fn report_fields(bytes: &[u8]) -> Fields
     requires { ⌜ length (now bytes) ≡ messageBytes ⌝ }
-    ensures { λ r. ⌜ r ≡ baseOf (now (bytes .entry)) ⌝ }
+    ensures { λ r. ⌜ r ≡ reportTaken (now (bytes .entry)) ⌝ }
 {
-    let f = take_four(bytes, 0, 6, 2, 30, 14);
-    let g = take_four(bytes, 52, 4, 5, 5, 6);
-    let h = take_four(bytes, 72, 6, 1, 28, 27);
-    let i = take_four(bytes, 134, 4, 1, 9, 1);
-    let longitude = signed(h.c, 28);
-    let latitude = signed(h.d, 27);
-    Base {
-        repeat: f.b,
-        source: f.c,
-        year: f.d,
-        month: g.a,
-        day: g.b,
-        hour: g.c,
-        minute: g.d,
-        second: h.a,
-        accuracy: h.b,
+    let mut r = start(bytes);
+    r = take(r, 6, 2, 30, 4);
+    let a = r.four;
+    r = take(r, 8, 10, 1, 28);
+    let b = r.four;
+    r = take(r, 27, 12, 9, 6);
+    let c = r.four;
+    r = take(r, 2, 3, 1, 19);
+    let d = r.four;
+    Fields { a, b, c, d }
+}
+
+// The fields of message 4.
+fn base_fields(bytes: &[u8]) -> Fields
+    requires { ⌜ length (now bytes) ≡ messageBytes ⌝ }
+    ensures { λ r. ⌜ r ≡ baseTaken (now (bytes .entry)) ⌝ }
+{
+    let mut r = start(bytes);
+    r = take(r, 6, 2, 30, 14);
+    let a = r.four;
+    r = take(r, 4, 5, 5, 6);
+    let b = r.four;
+    r = take(r, 6, 1, 28, 27);
+    let c = r.four;
+    r = take(r, 4, 1, 9, 20);
+    let d = r.four;
+    Fields { a, b, c, d }
+}
+
+pub fn report_in(bytes: &[u8]) -> ReportRead
+    requires { ⌜ length (now bytes) ≡ messageBytes ⌝ }
+    ensures { λ r. ⌜ r ≡ reportRead (now (bytes .entry)) ⌝ }
+{
+    let f = report_fields(bytes);
+    let a = f.a;
+    let b = f.b;
+    let c = f.c;
+    let d = f.d;
+    let turn = signed(b.a, 8);
+    let longitude = signed(b.d, 28);
+    let latitude = signed(c.a, 27);
+    let report = Report {
+        repeat: a.b,
+        source: a.c,
+        status: a.d,
+        turn,
+        speed: b.b,
+        accuracy: b.c,
         longitude,
         latitude,
-        fix: i.a,
-        control: i.b,
-        spare: i.c,
-        raim: i.d,
+        course: c.b,
+        heading: c.c,
+        second: c.d,
+        manoeuvre: d.a,
+        spare: d.b,
+        raim: d.c,
+    };
+    ReportRead {
+        report,
+        state: d.d,
     }
 }
 
-// A message of another id than 3.
-fn organised(bytes: &[u8], head: Four, state: State) -> Message
-    requires { ⌜ (length (now bytes) ≡ messageBytes) × HeadOf (now bytes) head × StandsIn (now bytes) state ⌝ }
-    ensures { λ r. ⌜ r ≡ organisedMessage (now (bytes .entry)) (head .a) ⌝ }
+pub fn base_in(bytes: &[u8]) -> BaseRead
+    requires { ⌜ length (now bytes) ≡ messageBytes ⌝ }
+    ensures { λ r. ⌜ r ≡ baseRead (now (bytes .entry)) ⌝ }
 {
-    let s = organised_of(bytes, state);
-    let id = head.a;
-    if id == 4 {
-        return Message::Four(base_in(bytes), s);
+    let f = base_fields(bytes);
+    let a = f.a;
+    let b = f.b;
+    let c = f.c;
+    let d = f.d;
+    let longitude = signed(c.c, 28);
+    let latitude = signed(c.d, 27);
+    let base = Base {
+        repeat: a.b,
+        source: a.c,
+        year: a.d,
+        month: b.a,
+        day: b.b,
+        hour: b.c,
+        minute: b.d,
+        second: c.a,
+        accuracy: c.b,
+        longitude,
+        latitude,
+        fix: d.a,
+        control: d.b,
+        spare: d.c,
+        raim: d.d / 524288,
+    };
+    BaseRead {
+        base,
+        state: d.d % 524288,
     }
-    let report = report_in(bytes, head);
+}
+
+// Message 4.
+fn base_message(bytes: &[u8]) -> Message
+    requires { ⌜ length (now bytes) ≡ messageBytes ⌝ }
+    ensures { λ r. ⌜ r ≡ Station (baseOf (now (bytes .entry))) (organisedOf (now (bytes .entry))) ⌝ }
+{
+    let x = base_in(bytes);
+    let base = x.base;
+    Message::Four(base, organised_in(x.state))
+}
+
+// Message 1 or 2, whose state is v.
+fn organised(id: u32, report: Report, state: State, v: u32) -> Message
+    requires { ⌜ StandsIn v state ⌝ }
+    ensures { λ r. ⌜ r ≡ oneOrTwo id report (organisedFrom v) ⌝ }
+{
+    let s = organised_of(state, v);
     if id == 2 {
         return Message::Two(report, s);
     }
@@ -122,13 +196,18 @@ fn organised(bytes: &[u8], head: Four, state: State) -> Message
 }
 
 // The message, by its id. Message 3 alone carries the incremental state.
-pub fn message_in(bytes: &[u8], head: Four) -> Message
-    requires { ⌜ (length (now bytes) ≡ messageBytes) × HeadOf (now bytes) head ⌝ }
+pub fn message_in(bytes: &[u8], id: u32) -> Message
+    requires { ⌜ (length (now bytes) ≡ messageBytes) × (id ≡ idIn (now bytes)) ⌝ }
     ensures { λ r. ⌜ r ≡ messageOf (now (bytes .entry)) ⌝ }
 {
-    let state = state_in(bytes, head.a);
+    if id == 4 {
+        return base_message(bytes);
+    }
+    let x = report_in(bytes);
+    let report = x.report;
+    let state = state_in(id, x.state);
     let State::Incremental(i) = state else {
-        return organised(bytes, head, state);
+        return organised(id, report, state, x.state);
     };
-    Message::Three(report_in(bytes, head), i)
+    Message::Three(report, i)
 }

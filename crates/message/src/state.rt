@@ -1,13 +1,9 @@
 // The communication state, 19 bits at the end of a message, taken apart. Promise: it is read and written as specs/State.antt says.
 ghost use mathlib.Core.Path.{_≡_};
 ghost use Prim.Native.Nat.{_<_};
-ghost use lib.ListN.{length};
-ghost use Rattle.limits.specs.Limits.{messageBytes};
-ghost use Rattle.bits.specs.Field.{fieldOf};
-ghost use Rattle.message.specs.State.{subOf, organisedOf, incrementalOf, stateOf, timeOutOf};
-ghost use Rattle.message.specs.Sheet.{StandsIn, clockValue, valueOf, organisedFour, incrementalFour};
+ghost use Rattle.message.specs.State.{timeOutOf};
+ghost use Rattle.message.specs.Sheet.{clockFrom, subFrom, organisedParts, organisedFrom, incrementalFrom, stateFrom, StandsIn, clockValue, valueOf, organisedFour, incrementalFour};
 use bits::reader::Four;
-use bits::reader::take_four;
 
 pub struct Clock {
     pub hour: u32,
@@ -49,21 +45,26 @@ pub enum State {
     Incremental(Incremental),
 }
 
+pub fn clock_in(v: u32) -> Clock
+    ensures { λ r. ⌜ r ≡ clockFrom v ⌝ }
+{
+    Clock {
+        hour: v / 512,
+        minute: v / 4 % 128,
+        unused: v % 4,
+    }
+}
+
 // What the last 14 bits, v, say where the time-out is t.
-fn sub_in(bytes: &[u8], t: u32, v: u32) -> SubMessage
-    requires { ⌜ (length (now bytes) ≡ messageBytes) × (t < 8) × (v ≡ fieldOf (now bytes) 154 14) ⌝ }
-    ensures { λ r. ⌜ r ≡ subOf (now (bytes .entry)) t ⌝ }
+fn sub_in(t: u32, v: u32) -> SubMessage
+    requires { ⌜ t < 8 ⌝ }
+    ensures { λ r. ⌜ r ≡ subFrom t v ⌝ }
 {
     if t == 0 {
         return SubMessage::Offset(v);
     }
     if t == 1 {
-        let f = take_four(bytes, 151, 3, 5, 7, 2);
-        return SubMessage::Time(Clock {
-            hour: f.b,
-            minute: f.c,
-            unused: f.d,
-        });
+        return SubMessage::Time(clock_in(v));
     }
     if t % 2 == 0 {
         return SubMessage::Slot(Counted {
@@ -77,47 +78,55 @@ fn sub_in(bytes: &[u8], t: u32, v: u32) -> SubMessage
     })
 }
 
-fn organised_in(bytes: &[u8]) -> SelfOrganised
-    requires { ⌜ length (now bytes) ≡ messageBytes ⌝ }
-    ensures { λ r. ⌜ r ≡ organisedOf (now (bytes .entry)) ⌝ }
+// Sync, time-out and 14 bits of the 19, v.
+pub fn organised_parts(v: u32) -> Four
+    ensures { λ r. ⌜ r ≡ organisedParts v ⌝ }
 {
-    let f = take_four(bytes, 148, 1, 2, 3, 14);
-    let sub = sub_in(bytes, f.c, f.d);
-    SelfOrganised { sync: f.b, sub }
-}
-
-fn incremental_in(bytes: &[u8]) -> Incremental
-    requires { ⌜ length (now bytes) ≡ messageBytes ⌝ }
-    ensures { λ r. ⌜ r ≡ incrementalOf (now (bytes .entry)) ⌝ }
-{
-    let f = take_four(bytes, 149, 2, 13, 3, 1);
-    Incremental {
-        sync: f.a,
-        increment: f.b,
-        code: f.c,
-        keep: f.d,
+    Four {
+        a: v / 131072,
+        b: v / 16384 % 8,
+        c: v % 16384,
+        d: 0,
     }
 }
 
-// The state in the bytes of a message of this id.
-pub fn state_in(bytes: &[u8], id: u32) -> State
-    requires { ⌜ length (now bytes) ≡ messageBytes ⌝ }
-    ensures { λ r. ⌜ r ≡ stateOf (now (bytes .entry)) id ⌝ }
+pub fn organised_in(v: u32) -> SelfOrganised
+    ensures { λ r. ⌜ r ≡ organisedFrom v ⌝ }
+{
+    let f = organised_parts(v);
+    let sub = sub_in(f.b, f.c);
+    SelfOrganised { sync: f.a, sub }
+}
+
+fn incremental_in(v: u32) -> Incremental
+    ensures { λ r. ⌜ r ≡ incrementalFrom v ⌝ }
+{
+    Incremental {
+        sync: v / 131072,
+        increment: v / 16 % 8192,
+        code: v / 2 % 8,
+        keep: v % 2,
+    }
+}
+
+// What the 19 bits, v, say in a message of this id.
+pub fn state_in(id: u32, v: u32) -> State
+    ensures { λ r. ⌜ r ≡ stateFrom id v ⌝ }
 {
     if id == 3 {
-        return State::Incremental(incremental_in(bytes));
+        return State::Incremental(incremental_in(v));
     }
-    State::SelfOrganised(organised_in(bytes))
+    State::SelfOrganised(organised_in(v))
 }
 
-// The self-organised state, where it has been read or not.
-pub fn organised_of(bytes: &[u8], state: State) -> SelfOrganised
-    requires { ⌜ (length (now bytes) ≡ messageBytes) × StandsIn (now bytes) state ⌝ }
-    ensures { λ r. ⌜ r ≡ organisedOf (now (bytes .entry)) ⌝ }
+// The self-organised state, where it has been taken apart or not.
+pub fn organised_of(state: State, v: u32) -> SelfOrganised
+    requires { ⌜ StandsIn v state ⌝ }
+    ensures { λ r. ⌜ r ≡ organisedFrom v ⌝ }
 {
     match state {
         State::SelfOrganised(s) => s,
-        State::Incremental(_) => organised_in(bytes),
+        State::Incremental(_) => organised_in(v),
     }
 }
 

@@ -1,20 +1,21 @@
-use mathlib.Core.Path.{refl}
+use mathlib.Core.Path.{refl, ap}
 use native.Mathlib.Omega.{arith}
 use lib.Dec.{lit<}
-use Rattle.message.specs.State.{clockOf}
-use Rattle.listing.proofs.Fits.{field-small}
+use Rattle.message.specs.declared.state.Clock.{Clock}
 use borrow.Author.Needs.{needs}
 use Rattle.listing.proofs.putting.put_clock.Statement.{statement}
 use Rattle.listing.proofs.putting.put_clock.Tie as tie
 
 put-plains-requires : tie.Need-put-plains-requires
 put-plains-requires c κs =
-    let e = c .before .take-four .ensures in
-    (omega arith, (lit< tt, field-small _ 154 5 _ tt (e .1)), (field-small _ 159 7 _ tt (e .2), field-small _ 166 2 _ tt (e .3)))
+    let e = c .before .clock-in .ensures in
+    let hour = ap (λ (k : Clock). k .hour) e in
+    let minute = ap (λ (k : Clock). k .minute) e in
+    let unused = ap (λ (k : Clock). k .unused) e in
+    (omega arith, (lit< tt, omega (arith, hour)), (omega (arith, minute), omega (arith, unused)))
 
 returns : tie.Need-returns
-unfolding clockOf
-returns c = let e = c .before .before .before .take-four .ensures in (refl, rw (c .before .put-plains .ensures, e .1, e .2, e .3))
+returns c = (refl, rw (c .before .put-plains .ensures, c .before .before .before .clock-in .ensures))
 
 pub put-clock-spec : {M : Type 1} → statement M
 put-clock-spec = tie.close (tie.spec (search needs) put-plains-requires (search needs) (search needs) (search needs) returns)

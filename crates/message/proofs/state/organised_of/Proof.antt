@@ -5,7 +5,7 @@ use Rattle.message.proofs.state.organised_of.Statement.{statement}
 use Rattle.message.proofs.state.organised_of.Tie as tie
 
 returns : tie.Need-returns
-returns c = let a = c .before .before .before .before in subst (StandsIn (a .args .bytes .now)) (c .before .state .given .1) (a .pre .1)
+returns c = let a = c .before .before .before in subst (StandsIn (a .args .v)) (c .before .state .given .1) (a .pre)
 
 pub organised-of-spec : {M : Type 1} → statement M
 organised-of-spec =

@@ -1,21 +1,21 @@
-use Rattle.message.specs.State.{clockOf}
+use mathlib.Core.Path.{ap, _∙_}
+use Rattle.message.specs.declared.state.SubMessage.the-variants.{Time}
 use Rattle.message.proofs.Readings.{sub-offset, sub-time, sub-slot, sub-stations}
 use borrow.Author.Needs.{needs}
 use Rattle.message.proofs.state.sub_in.Statement.{statement}
 use Rattle.message.proofs.state.sub_in.Tie as tie
 
 returns : tie.Need-returns
-returns c = sub-offset _ _ _ (c .before .before .pre .2) (c .if1 .taken)
+returns c = sub-offset _ _ _ (c .if1 .taken)
 
 returns-2 : tie.Need-returns-2
-unfolding clockOf
-returns-2 c = let e = c .take-four .ensures in sub-time _ _ _ (c .before .before .before .before .pre .2) (c .before .before .if1 .left) _ (c .before .if2 .taken) (λ j. record { hour = e .1 j; minute = e .2 j; unused = e .3 j })
+returns-2 c = ap Time (c .clock-in .ensures) ∙ sub-time _ _ _ (c .before .before .if1 .left) (c .before .if2 .taken)
 
 returns-3 : tie.Need-returns-3
-returns-3 c = sub-slot _ _ _ (c .before .before .before .before .pre .2) (c .before .before .if1 .left) (c .before .if2 .left) (c .if3 .taken)
+returns-3 c = sub-slot _ _ _ (c .before .before .if1 .left) (c .before .if2 .left) (c .if3 .taken)
 
 returns-4 : tie.Need-returns-4
-returns-4 c = sub-stations _ _ _ (c .before .before .before .before .pre .2) (c .before .before .if1 .left) (c .before .if2 .left) (c .if3 .left)
+returns-4 c = sub-stations _ _ _ (c .before .before .if1 .left) (c .before .if2 .left) (c .if3 .left)
 
 pub sub-in-spec : {M : Type 1} → statement M
 sub-in-spec =
