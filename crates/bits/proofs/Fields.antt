@@ -73,7 +73,7 @@ field-there l pre post at w v e bits =
     ap (λ (t : List ℕ). highValue 0 (take w (drop at t))) bits ∙ ap (highValue 0) (take-middle pre (highFirst w v) post at w e (length-highFirst w v))
     ∙ value-high w v 0 ∙ omega arith
 
-pub length-field : (l : List ℕ) (at w : ℕ) → at + w ≤ 8 * length l → length (take w (drop at (bitsOf l))) ≡ w
+length-field : (l : List ℕ) (at w : ℕ) → at + w ≤ 8 * length l → length (take w (drop at (bitsOf l))) ≡ w
 length-field l at w h = length-take-le w (drop at (bitsOf l)) (omega (arith, length-drop at (bitsOf l), length-bits l))
 
 pub field-bits : (l : List ℕ) (at w : ℕ) → at + w ≤ 8 * length l → highFirst w (fieldOf l at w) ≡ take w (drop at (bitsOf l))

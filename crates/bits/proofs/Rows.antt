@@ -20,7 +20,7 @@ use Rattle.bits.specs.Bits.{highFirst, highValue, allBits, eights}
 use Rattle.bits.specs.Field.{bitsOf, packed, fieldOf, spliced, putField}
 use Rattle.bits.specs.Row.{laid, widthOf, allFit, layOver, rowAt, widthsOf, fourRow, joinedFour}
 use Rattle.bits.specs.declared.reader.Four.{Four}
-use Rattle.bits.proofs.Bits.{both-both, allBits-end, allBits-append, allBits-take, allBits-drop, high-bits, length-highFirst, high-append, high-low, high-back}
+use Rattle.bits.proofs.Bits.{both-both, allBits-end, allBits-append, allBits-take, allBits-drop, high-bits, length-highFirst, high-append, high-low}
 use Rattle.bits.proofs.Bytes.{length-eights}
 use Rattle.bits.proofs.Fields.{length-bits, bits-are, bits-append, bits-packed, packed-bits, field-there, field-bits}
 

@@ -54,7 +54,8 @@ pub fn start<'a>(bytes: &'a [u8]) -> Reader<'a>
     }
 }
 
-// The reader after the next four fields, of these widths, with what they say. That a position fits a usize is asked: of 2 ^ 61 bytes and more it need not.
+// The reader after the next four fields, of these widths, and what they say. That the position fits a usize is asked: of 2 ^ 61 bytes and
+// more it need not.
 pub fn take<'a>(r: Reader<'a>, a: usize, b: usize, c: usize, d: usize) -> Reader<'a>
     requires { ⌜ (8 ≤ length (now (r .bytes))) × Widths a b c d × (r .at + a + b + c + d < 2 ^ 64) × (r .at + a + b + c + d ≤ 8 * length (now (r .bytes))) ⌝ }
     ensures { λ q. ⌜ q ≡ record { bytes = r .entry .bytes; at = r .entry .at + a + b + c + d; four = fourAt (now (r .entry .bytes)) (r .entry .at) a b c d } ⌝ }

@@ -12,13 +12,11 @@ use lib.Pow.{pow-mono}
 use mir.Facts.{toZ-pos}
 use mir.Syntax.{w32}
 use mir.Val.{toZ}
-use Rattle.bits.specs.Field.{fieldOf}
 use Rattle.bits.specs.Row.{allFit}
 use Rattle.bits.proofs.Rows.{both-fit}
 use Rattle.message.specs.Message.{reportRow, baseRow}
 use Rattle.message.specs.declared.Report.{Report}
 use Rattle.message.specs.declared.Base.{Base}
-use Rattle.message.proofs.Readings.{narrow}
 use Rattle.listing.specs.Listing.{SmallReport, SmallBase}
 
 -- ---- by its place in a row
@@ -46,11 +44,6 @@ pub base-small : (b : Base) → allFit (baseRow b) ≡ true → SmallBase b
 base-small b e =
     let s = small (baseRow b) e in
     ((s 0 tt, s 1 tt), (s 2 tt, s 3 tt), (s 4 tt, s 5 tt), (s 6 tt, s 7 tt), (s 8 tt, s 9 tt), (s 12 tt, s 13 tt), (s 14 tt, s 15 tt))
-
--- ---- of a field that was read
-
-pub field-small : (l : List ℕ) (at w v : ℕ) → T (leb w 31) → v ≡ fieldOf l at w → v < 2147483648
-field-small l at w v h e = lt-of-lt-of-le (narrow l at w v e) (pow-mono {j = 31} (leb→le w 31 h))
 
 -- ---- as a signed word
 

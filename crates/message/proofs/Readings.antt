@@ -29,9 +29,7 @@ use Rattle.message.specs.declared.state.SelfOrganised.{SelfOrganised}
 use Rattle.message.specs.declared.state.Incremental.{Incremental}
 use Rattle.message.specs.declared.state.SubMessage.the-variants.{Offset, Time, Slot, Stations}
 use Rattle.message.specs.declared.state.State.the-variants.{SelfOrganised as Organised, Incremental as Increasing}
-use Rattle.message.specs.declared.Report.{Report}
-use Rattle.message.specs.declared.Message.{Message}
-use Rattle.message.specs.declared.Message.the-variants.{One, Two, Three, Four}
+use Rattle.message.specs.declared.Message.the-variants.{Three, Four}
 use Rattle.message.specs.declared.Received.the-variants.{Message as Got, Refused}
 
 -- ---- a field that was read, and what it means

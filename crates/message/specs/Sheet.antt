@@ -86,6 +86,7 @@ organisedFrom v = record { sync = v / 131072; sub = subFrom (v / 16384 % 8) (v %
 abbrev pub incrementalFrom : ℕ → Incremental
 incrementalFrom v = record { sync = v / 131072; increment = v / 16 % 8192; code = v / 2 % 8; keep = v % 2 }
 
+-- message 3 alone carries the incremental state
 unfoldable pub stateFrom : ℕ → ℕ → State
 stateFrom id v = pick (eqb id 3) (Increasing (incrementalFrom v)) (Organised (organisedFrom v))
 

@@ -10,8 +10,6 @@ use Rattle.message.specs.declared.state.SubMessage.{SubMessage}
 use Rattle.message.specs.declared.state.SubMessage.the-variants.{Offset, Time, Slot, Stations}
 use Rattle.message.specs.declared.state.SelfOrganised.{SelfOrganised}
 use Rattle.message.specs.declared.state.Incremental.{Incremental}
-use Rattle.message.specs.declared.state.State.{State}
-use Rattle.message.specs.declared.state.State.the-variants.{SelfOrganised as Organised, Incremental as Increasing}
 
 -- ---- read
 
@@ -31,10 +29,6 @@ organisedOf l = record { sync = fieldOf l 149 2; sub = subOf l (fieldOf l 151 3)
 
 unfoldable pub incrementalOf : List ℕ → Incremental
 incrementalOf l = record { sync = fieldOf l 149 2; increment = fieldOf l 151 13; code = fieldOf l 164 3; keep = fieldOf l 167 1 }
-
--- message 3 alone carries the incremental state
-unfoldable pub stateOf : List ℕ → ℕ → State
-stateOf l id = pick (eqb id 3) (Increasing (incrementalOf l)) (Organised (organisedOf l))
 
 -- ---- written: widths and numbers in a row
 

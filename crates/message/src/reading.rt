@@ -22,13 +22,13 @@ use bits::reader::take;
 use limits::MESSAGE;
 use numbers::Refusal;
 
-// The id of a message, or why there is no message.
+// The id of a message, by which its fields are known; or why there is no message.
 pub enum Head {
     Known(u32),
     Refused(Refusal),
 }
 
-// All fields of a message as they stand. The last one is the state, as one number, in message 4 with the bit before it.
+// All fields of a message as they stand. The last one is the state as one number, in message 4 with the raim flag before it.
 pub struct Fields {
     pub a: Four,
     pub b: Four,
@@ -36,7 +36,7 @@ pub struct Fields {
     pub d: Four,
 }
 
-// A report, and its state as one number.
+// A report, and its state as one number of 19 bits.
 pub struct ReportRead {
     pub report: Report,
     pub state: u32,
@@ -54,7 +54,7 @@ fn id_in(bytes: &[u8]) -> u32
     field(bytes, 0, 6)
 }
 
-// What a message is by its first bits: 17, 18.
+// What a message begins with: 17, 18.
 pub fn head_of(bytes: &[u8]) -> Head
     ensures { λ r. ⌜ Heads (now (bytes .entry)) r ⌝ }
 {
@@ -133,10 +133,7 @@ pub fn report_in(bytes: &[u8]) -> ReportRead
         spare: d.b,
         raim: d.c,
     };
-    ReportRead {
-        report,
-        state: d.d,
-    }
+    ReportRead { report, state: d.d }
 }
 
 pub fn base_in(bytes: &[u8]) -> BaseRead
@@ -165,6 +162,7 @@ pub fn base_in(bytes: &[u8]) -> BaseRead
         fix: d.a,
         control: d.b,
         spare: d.c,
+        // it stands before the 19 bits of the state
         raim: d.d / 524288,
     };
     BaseRead {

@@ -1,6 +1,5 @@
 use borrow.Author.Tests.{eq-eqb, ne-eqb}
 use Rattle.message.specs.Sheet.{oneOrTwo}
-use borrow.Author.Needs.{needs}
 use Rattle.message.proofs.reading.organised.Statement.{statement}
 use Rattle.message.proofs.reading.organised.Tie as tie
 
