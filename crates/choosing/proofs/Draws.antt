@@ -79,7 +79,7 @@ module _ (s : State) (a : Wanted) (r : Draws s a) where
   redrawn d = record { sizes = r .sizes; planned = r .planned; asked = r .asked; unmarked = r .unmarked }
 
   -- what is said of the draw d
-  said-of : (d : ℕ) → said (choose s (withDraw a d) .answer) ≡ saidOf s (withDraw a d) (choice (viewIn s) (windowIn s a) d)
+  pub said-of : (d : ℕ) → said (choose s (withDraw a d) .answer) ≡ saidOf s (withDraw a d) (choice (viewIn s) (windowIn s a) d)
   said-of d = draw-says s (withDraw a d) (redrawn d)
 
   slot-drawn : (x d : ℕ) → isSlot x (said (choose s (withDraw a d) .answer)) ≡ isAt x (choice (viewIn s) (windowIn s a) d)

@@ -1,26 +1,32 @@
 -- Document 01's marked examples, as a single list under a single claim.
 -- Assumes nothing.
-use Prim.Native.Nat.{ℕ, _+_, _-_, _^_, _<_}
+use Prim.Native.Nat.{ℕ, zero, suc, _+_, _-_, _*_, _^_, _<_}
 use mathlib.Core.Path.{_≡_}
 use mathlib.Core.Bool.{false}
 use mathlib.Core.List.{List, [], _∷_}
+use lib.Dec.{eqb}
 use lib.IntN.{negsuc}
-use lib.ListN.{length, getD}
+use lib.ListN.{getD}
+use Rattle.laws.specs.Tests.{pick, between}
 use Rattle.laws.specs.Ranges.{howMany}
 use Rattle.plan.specs.declared.Plan.{Plan}
-use Rattle.plan.specs.Plan.{nominal}
-use Rattle.plan.specs.Examples.{gapsOf, figures}
+use Rattle.plan.specs.Plan.{nominal, half, slots, floorGap, ceilGap, gap}
 use Rattle.message.specs.declared.state.Incremental.{Incremental}
+use Rattle.message.specs.declared.state.State.the-variants.{Incremental as Increasing}
 use Rattle.message.specs.Signs.{signedOf}
-use Rattle.message.specs.State.{slotsOf, distanceOf}
+use Rattle.message.specs.State.{slotsOf}
+use Rattle.announcing.specs.Rows.{marksTime, freesTime}
+use Rattle.announcing.specs.Announce.{announces}
 use Rattle.ship.specs.Ship.{knownPlace}
-use Rattle.candidates.specs.declared.Window.{Window}
-use Rattle.candidates.specs.Slot.{View}
-use Rattle.candidates.specs.declared.Picked.the-variants.{At, SentBack, NoCandidate}
+use Rattle.candidates.specs.declared.SlotState.{SlotState}
 use Rattle.candidates.specs.declared.SlotState.the-variants.{Free, Far}
-use Rattle.candidates.specs.Window.{candidates, picked, isAt}
-use Rattle.candidates.specs.Choice.{candidatesIn, choice}
-use Rattle.candidates.specs.Promises.{Candidate, stateIn, worthsOf}
+use Rattle.candidates.specs.Window.{worth, candidates}
+use Rattle.candidates.specs.Choice.{candidatesIn}
+use Rattle.register.specs.State.{State}
+use Rattle.register.specs.Answers.{Said, said, givenNumber}
+use Rattle.choosing.specs.declared.Wanted.{Wanted}
+use Rattle.choosing.specs.Choose.{choose}
+use Rattle.choosing.specs.ChoosePromises.{viewIn, windowIn, slotIs, CandidateIn, candidatesOf, Draws, withDraw, isSlot}
 
 -- a list of claims, and that all of them hold
 pub data Claims : Type 1 where
@@ -31,12 +37,46 @@ abbrev pub AllHold : Claims → Type 0
 AllHold none = Unit {0}
 AllHold (also c cs) = c × AllHold cs
 
+-- ---- words for the plan
+
 abbrev planAt : ℕ → ℕ → Plan
 planAt r s = record { rate = r; start = s }
 
--- an incremental state with this slots code and increment, at any sync and keep
+-- how many of the gaps 0 to n - 1 are g
+unfoldable pub gapsOf : Plan → ℕ → ℕ → ℕ
+gapsOf p g zero = 0
+gapsOf p g (suc n) = gapsOf p g n + pick (eqb (gap p n) g) 1 0
+
+-- h, the slots of a window, and the least and greatest distance between slots of neighbouring windows
+unfoldable pub figures : Plan → List ℕ
+figures p = half p ∷ slots p ∷ (floorGap p - 2 * half p) ∷ (ceilGap p + 2 * half p) ∷ []
+
+-- ---- words for a message
+
+-- an incremental state with this slots code and increment, at any sync and with keep 0
 abbrev announcing : ℕ → ℕ → (Incremental → Type 0) → Type 0
-announcing code increment claim = (sync keep : ℕ) → claim (record { sync = sync; increment = increment; code = code; keep = keep })
+announcing code increment claim = (sync : ℕ) → claim (record { sync = sync; increment = increment; code = code; keep = 0 })
+
+-- ---- words for the choice
+
+-- what is said where the draw d is given
+abbrev saidAt : State → Wanted → ℕ → Said
+saidAt s a d = said (choose s (withDraw a d) .answer)
+
+-- the draw 65,504 is answered with the last of the 33 candidates, and 65,505 with 34
+pub record LastDraw (s : State) (a : Wanted) : Type 0 where
+  pub taken : saidAt s a 65504 .number ≡ 0
+  pub slot : getD (saidAt s a 65504 .values) 0 0 ≡ windowIn s a .first + getD (candidatesIn (viewIn s) (windowIn s a)) 32 0
+  pub number : getD (saidAt s a 65504 .values) 2 0 ≡ 33
+  pub back : saidAt s a 65505 .number ≡ 34
+
+-- the worths of a list of states
+abbrev pub worthsOf : List SlotState → ℕ → ℕ
+worthsOf [] i = 0
+worthsOf (s ∷ l) zero = worth s
+worthsOf (s ∷ l) (suc i) = worthsOf l i
+
+-- ---- the examples
 
 -- 1. r 14, s 0: slots 0, 160, 321, 482; k 13 gives 2089; ten gaps of 161, four of 160
 abbrev pub example1 : Type 0
@@ -59,13 +99,13 @@ example4 = figures (planAt 1 0) ≡ 225 ∷ 451 ∷ 1800 ∷ 2700 ∷ []
 
 -- 5. 33 candidates: draw 65,504 taken, 65,505 sent back
 abbrev pub example5 : Type 0
-example5 = (a : ℕ) (cs : List ℕ) → length cs ≡ 33 → (picked a cs 65504 ≡ At (a + getD cs 32 0) 33) × (picked a cs 65505 ≡ SentBack)
+example5 = (s : State) (a : Wanted) → Draws s a → candidatesOf s a ≡ 33 → LastDraw s a
 
 -- 6. 4 candidates: each has 16,384 draws
 abbrev pub example6 : Type 0
 example6 =
-    (v : View) (w : Window) (i : ℕ) → length (candidatesIn v w) ≡ 4 → Candidate v w i
-    → howMany (λ d. isAt (w .first + i) (choice v w d)) 65536 ≡ 16384
+    (s : State) (a : Wanted) (i : ℕ) → Draws s a → candidatesOf s a ≡ 4 → CandidateIn s a i
+    → howMany (λ d. isSlot (windowIn s a .first + i) (said (choose s (withDraw a d) .answer))) 65536 ≡ 16384
 
 -- 7. longitude field all ones: -1; high bit only: -134,217,728
 abbrev pub example7 : Type 0
@@ -73,15 +113,16 @@ example7 = (signedOf 28 (2 ^ 28 - 1) ≡ negsuc 0) × (signedOf 28 (2 ^ 27) ≡ 
 
 -- 8. code 5, increment 1: one slot, 8,193 ahead
 abbrev pub example8 : Type 0
-example8 = announcing 5 1 (λ s. (slotsOf s ≡ 1) × (distanceOf s ≡ 8193))
+example8 = announcing 5 1 (λ s. (slotsOf s ≡ 1) × ((d : ℕ) → marksTime (announces (Increasing s)) d ≡ eqb d 8193))
 
 -- 9. code 7, increment 8191: 16,383 to 16,385 ahead
 abbrev pub example9 : Type 0
-example9 = announcing 7 8191 (λ s. (slotsOf s ≡ 3) × (distanceOf s ≡ 16383))
+example9 = announcing 7 8191 (λ s. (d : ℕ) → marksTime (announces (Increasing s)) d ≡ between 16383 16385 d)
 
 -- 10. code 5, increment 0: nothing
 abbrev pub example10 : Type 0
-example10 = announcing 5 0 (λ s. slotsOf s ≡ 0)
+example10 =
+    announcing 5 0 (λ s. (d : ℕ) → (marksTime (announces (Increasing s)) d ≡ false) × (freesTime (announces (Increasing s)) d ≡ false))
 
 -- 11. two free; A at 900 has one slot, B at 500 two: candidates are both free ones, A's, B's earlier
 abbrev pub example11 : Type 0
@@ -90,8 +131,8 @@ example11 = candidates (worthsOf (Far 500 ∷ Free ∷ Far 900 ∷ Far 500 ∷ F
 -- 12. no free slot, own position unknown: 33
 abbrev pub example12 : Type 0
 example12 =
-    (v : View) (w : Window) (d : ℕ) → knownPlace (v .ship .latitude) (v .ship .longitude) ≡ false
-    → ((i : ℕ) → i < w .width → stateIn v w i ≡ Free → ⊥) → choice v w d ≡ NoCandidate
+    (s : State) (a : Wanted) → Draws s a → knownPlace (s .watch .ship .latitude) (s .watch .ship .longitude) ≡ false
+    → ((i : ℕ) → i < windowIn s a .width → slotIs s a i ≡ Free → ⊥) → givenNumber (choose s a) ≡ 33
 
 abbrev pub marked : Claims
 marked =
