@@ -12,4 +12,3 @@ pub mod Loops
 pub mod Levels
 pub mod Sameness
 pub mod Promised
-pub mod Examples

@@ -1,19 +1,17 @@
--- What is promised of the choice, beyond what each function's contract says. Proved in proofs/Promised.antt and proofs/Examples.antt.
+-- What is promised of the choice, beyond what each function's contract says. Proved in proofs/Promised.antt.
 -- Assumes nothing.
-use Prim.Native.Nat.{ℕ, zero, suc, _+_, _-_, _*_, _/_, _≤_, _<_, min}
+use Prim.Native.Nat.{ℕ, _+_, _-_, _*_, _/_, _≤_, _<_, min}
 use mathlib.Core.Path.{_≡_}
-use mathlib.Core.Bool.{true, false}
+use mathlib.Core.Bool.{true}
 use mathlib.Core.Logic.{_↔_}
-use mathlib.Core.List.{List, [], _∷_}
-use lib.ListN.{length, getD}
+use lib.ListN.{length}
 use Rattle.laws.specs.Ranges.{howMany}
 use Rattle.candidates.specs.declared.SlotState.{SlotState}
 use Rattle.candidates.specs.declared.SlotState.the-variants.{Free, Far}
 use Rattle.candidates.specs.declared.Window.{Window}
-use Rattle.candidates.specs.declared.Picked.the-variants.{At, NoCandidate, SentBack}
-use Rattle.ship.specs.Ship.{knownPlace}
+use Rattle.candidates.specs.declared.Picked.the-variants.{At, NoCandidate}
 use Rattle.candidates.specs.Slot.{View, stateOf}
-use Rattle.candidates.specs.Window.{worth, free, available, rank, candidate, candidates, picked, isBack, isAt}
+use Rattle.candidates.specs.Window.{free, available, rank, candidate, isBack, isAt}
 use Rattle.candidates.specs.Choice.{worthIn, candidatesIn, choice}
 
 -- ---- words for the slots of a window
@@ -92,24 +90,3 @@ NumberOfCandidates =
     (v : View) (w : Window) → w .width ≤ 512
     → length (candidatesIn v w)
     ≡ free (worthIn v w) (w .width) + min (4 - free (worthIn v w) (w .width)) (available (worthIn v w) (w .width))
-
--- ---- marked examples 5, 6, 11 and 12
-
--- the worths of a list of states
-abbrev pub worthsOf : List SlotState → ℕ → ℕ
-worthsOf [] i = 0
-worthsOf (s ∷ l) zero = worth s
-worthsOf (s ∷ l) (suc i) = worthsOf l i
-
-pub record MarkedExamples : Type 0 where
-  -- 33 candidates: draw 65,504 taken, 65,505 sent back
-  pub example-5 : (a : ℕ) (cs : List ℕ) → length cs ≡ 33
-      → (picked a cs 65504 ≡ At (a + getD cs 32 0) 33) × (picked a cs 65505 ≡ SentBack)
-  -- 4 candidates: each has 16,384 draws
-  pub example-6 : (v : View) (w : Window) (i : ℕ) → length (candidatesIn v w) ≡ 4 → Candidate v w i
-      → howMany (λ d. isAt (w .first + i) (choice v w d)) 65536 ≡ 16384
-  -- two free; A at 900 has one slot, B at 500 two: the candidates are both free ones, A's, and B's earlier
-  pub example-11 : candidates (worthsOf (Far 500 ∷ Free ∷ Far 900 ∷ Far 500 ∷ Free ∷ [])) 5 ≡ 0 ∷ 1 ∷ 2 ∷ 4 ∷ []
-  -- own position unknown, and no slot of the window is free: none
-  pub example-12 : (v : View) (w : Window) (d : ℕ) → knownPlace (v .ship .latitude) (v .ship .longitude) ≡ false
-      → ((i : ℕ) → i < w .width → stateIn v w i ≡ Free → ⊥) → choice v w d ≡ NoCandidate

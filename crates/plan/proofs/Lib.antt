@@ -2,4 +2,3 @@ pub mod Gaps
 pub mod Comings
 pub mod Windows
 pub mod Promised
-pub mod Examples

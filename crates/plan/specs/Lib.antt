@@ -1,4 +1,3 @@
 pub mod Plan
 pub mod Times
-pub mod Examples
 pub mod Promises

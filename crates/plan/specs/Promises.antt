@@ -1,4 +1,4 @@
--- What is promised of a plan, beyond what each method's contract says. Proved in proofs/Promised.antt and proofs/Examples.antt.
+-- What is promised of a plan, beyond what each method's contract says. Proved in proofs/Promised.antt.
 -- Assumes nothing.
 use Prim.Native.Nat.{ℕ, _+_, _-_, _*_, _%_, _≤_, _<_}
 use mathlib.Core.Path.{_≡_}
@@ -10,7 +10,6 @@ use Rattle.plan.specs.declared.Plan.{Plan}
 use Rattle.plan.specs.declared.Lies.{Lies}
 use Rattle.plan.specs.Plan.{InRange, nominal, half, first, floorGap, ceilGap, after, gap, gaps, since, InWindow, Tells}
 use Rattle.plan.specs.Times.{Comes, Within, Next, meant}
-use Rattle.plan.specs.Examples.{computed, expected}
 
 -- no second answer meets the contract of good. (Those of nominal, half, slots and first are equations, and those of none and changed say
 -- both fields.)
@@ -85,8 +84,3 @@ pub record MeantAhead (p : Plan) (k u : ℕ) : Type 0 where
 
 abbrev pub MeantIsAhead : Type 0
 MeantIsAhead = (p : Plan) (k u : ℕ) → k < p .rate → MeantAhead p k u
-
--- ---- marked examples 1 to 4, under one claim
-
-abbrev pub MarkedExamples : Type 0
-MarkedExamples = computed ≡ expected
