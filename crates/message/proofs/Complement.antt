@@ -72,16 +72,6 @@ signed-unsigned w (negsuc n) h l = go (decLt n (2 ^ (w - 1)))
         ap (signedOf w) (neg-in w n k) ∙ signed-high w (2 ^ w - 1 - n) (omega (arith, twice w h)) ∙ ap negsuc (omega (arith, twice w h))
     go (no k) = absurd (omega (arith, l, neg-out w n (omega arith)))
 
--- ---- examples: of 28 bits, all ones are -1, and the high one alone is -134,217,728
-
-example-ones : signedOf 28 (2 ^ 28 - 1) ≡ negsuc 0
-unfolding signedOf
-example-ones = refl
-
-example-lowest : signedOf 28 (2 ^ 27) ≡ negsuc 134217727
-unfolding signedOf
-example-lowest = refl
-
 -- ---- in 32 bits
 
 pow-31 : (w : ℕ) → w < 32 → 2 ^ w ≤ 2 ^ 31

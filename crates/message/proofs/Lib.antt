@@ -1,5 +1,4 @@
 pub mod Complement
-pub mod Examples
 pub mod Exactly
 pub mod Readings
 pub mod RoundTrip
