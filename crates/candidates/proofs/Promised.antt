@@ -1,4 +1,4 @@
--- What is promised of the choice (specs/Promises.antt), but the marked examples.
+-- What is promised of the choice (specs/Promises.antt).
 -- Assumes nothing.
 use mathlib.Core.Path.{_≡_, refl, sym, ap, _∙_}
 use mathlib.Core.Bool.{true}
