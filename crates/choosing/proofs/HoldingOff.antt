@@ -148,7 +148,7 @@ module _ (s : State) (x : ℕ) where
 -- ---- the call
 
 -- the register has the length asked for
-many-records : (s : State) → sized s ≡ true → length (s .reg) ≡ records
+pub many-records : (s : State) → sized s ≡ true → length (s .reg) ≡ records
 unfolding sized
 many-records s e = eqb-true (length (s .reg)) records (both-right (eqb (length (s .book)) slotTimes) (eqb (length (s .reg)) records) e)
 

@@ -14,7 +14,7 @@ use Rattle.laws.specs.Tests.{pick}
 use Rattle.laws.specs.Loops.{upto}
 use Rattle.laws.specs.Ranges.{some}
 use Rattle.laws.specs.Exactly.{AllHold}
-use Rattle.laws.proofs.Tests.{by-test, both-right, never}
+use Rattle.laws.proofs.Tests.{by-test, never}
 use Rattle.laws.proofs.Ranges.{some-hit, some-passes}
 use Rattle.laws.proofs.Upto.{upto-keeps}
 use Rattle.laws.proofs.Ladder.{all-through}
@@ -29,10 +29,10 @@ use Rattle.hearing.specs.Hear.{tellingIn, recordFor, entered, stored, heard, he
 use Rattle.choosing.specs.declared.Wanted.{Wanted}
 use Rattle.choosing.specs.Choose.{drawnIn, chosen, replacedIn, chooseTests, chooses, choose}
 use Rattle.choosing.specs.ChoosePromises.{Chose, HeldOff}
-use Rattle.choosing.proofs.HoldingOff.{only-replaced-held-off}
+use Rattle.choosing.proofs.HoldingOff.{many-records, only-replaced-held-off}
 use Rattle.register.specs.declared.Answer.the-variants.{Begun, Passed, Planned, Set}
 use Rattle.register.specs.State.{State, newState, bookIn, withTally, withHold, tallied, settle, owned, passed, passes}
-use Rattle.register.specs.Answers.{Answered, answered, said, sized}
+use Rattle.register.specs.Answers.{Answered, answered, said}
 use Rattle.register.proofs.Settling.{tallied-field}
 use Rattle.calls.specs.declared.What.{What}
 use Rattle.calls.specs.declared.What.the-variants.{Nothing, Hear, Plan, Own, Choose, Report, New, Sum}
@@ -183,10 +183,6 @@ module _ (s : State) (many : length (s .reg) ≡ records) (bytes : List ℕ) (k 
   done-record Sum = by-tests (Becomes Sum) (passTests s) _ (refl, tt) (λ h. refl)
 
 -- ---- the call
-
-many-records : (s : State) → sized s ≡ true → length (s .reg) ≡ records
-unfolding sized
-many-records s e = eqb-true (length (s .reg)) records (both-right (eqb (length (s .book)) slotTimes) (eqb (length (s .reg)) records) e)
 
 pub record-by-call : RecordByCall
 unfolding afterCall
