@@ -1,5 +1,6 @@
 // The C face: what the radio board's own program calls, declared in include/quaysickle.h. Promise: each call returns the paper's number,
-// 0 for none, and leaves in everything lent, the count too, what the packet crate's definitions say; a refusal leaves all of it.
+// 0 for none, and leaves in everything lent, the count too, what the packet crate's definitions say; a refusal leaves all of it. specs/Promises.antt has
+// "given exactly when" for each number, and that no second answer meets the contract.
 pub mod messages;
 
 ghost use Rattle.board.specs.Face.{WritesC, ReadsC};

@@ -1,6 +1,7 @@
 // The choosing of an own slot: the window meant, whether it has an own mark, its candidates, and the draw. Promises: `ask`, `scan` and `judge`, one after the other,
 // find the slot that the document's choice picks in the window meant (specs/Promises.antt, `FindsTheChoice`), for every book and register. `ask` and `judge` see the
-// book alone; `scan` looks the holders of its slots up in the lent register, and only where the book alone does not tell.
+// book alone; `scan` looks the holders of its slots up in the lent register, and only where the book alone does not tell. specs/ChoosePromises.antt has the draw and the
+// rule of four, of the whole call.
 pub mod own;
 pub mod scanning;
 pub mod window;

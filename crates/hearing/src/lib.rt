@@ -1,6 +1,6 @@
 // Hearing: what a message from another station does to the register and to the book. Promises: `find` looks its record up in the lent register, `store` enters it
-// there, `free_times` and `mark_times` book what it announces, each as specs/Hear.antt says, for every state. specs/Promises.antt has "given exactly when" for
-// each number, and that the record is the lowest.
+// there, `free_times` and `mark_times` book what it announces, each as specs/Hear.antt says, for every state. specs/Promises.antt has that
+// the record is the lowest; when each number is given stands with the calls.
 ghost use mathlib.Core.Path.{_≡_};
 ghost use mathlib.Core.List.{[]};
 ghost use Prim.Native.Nat.{_<_};
