@@ -1,22 +1,24 @@
 -- Document 01's marked examples hold.
 -- Assumes nothing.
-use mathlib.Core.Path.{_≡_, refl, ap, _∙_}
-use mathlib.Core.Bool.{false}
+use mathlib.Core.Path.{_≡_, refl, ap, ap₂, _∙_}
+use mathlib.Core.Bool.{Bool, true, false}
+use mathlib.Core.List.{[], _∷_, _++_}
 use Prim.Native.Nat.{ℕ, _+_, _*_, _/_, _%_, _<_}
 use native.Mathlib.Decide.{decLt}
 use native.Mathlib.Omega.{arith}
 use borrow.Author.Tests.{eq-eqb, ne-eqb, le-leb, lt-leb, lt-ltb, le-ltb}
 use lib.Dec.{eqb, leb, ltb}
 use lib.ListN.{length, getD}
-use Rattle.laws.specs.Tests.{both, between}
+use Rattle.laws.specs.Tests.{pick, both, either, between}
 use Rattle.laws.specs.Counting.{one}
 use Rattle.laws.specs.Ranges.{howMany, those, some}
 use Rattle.laws.proofs.Tests.{both-no, either-false}
 use Rattle.plan.specs.Plan.{along, nominal, half, slots, floorGap, ceilGap, after, gap}
 use Rattle.message.specs.Signs.{signedOf}
 use Rattle.message.specs.State.{slotsOf, distanceOf}
-use Rattle.announcing.specs.Rows.{inRun, hasTime}
-use Rattle.announcing.specs.Announce.{announces}
+use Rattle.announcing.specs.Rows.{inRun, hasTime, marksTime, freesTime}
+use Rattle.announcing.specs.Announce.{block, everyFrame, announces}
+use Rattle.limits.specs.Limits.{frameSlots}
 use Rattle.distance.specs.Distance.{weKnown}
 use Rattle.candidates.specs.declared.SlotState.{SlotState}
 use Rattle.candidates.specs.declared.SlotState.the-variants.{Own, Earlier, Free, OwnUnknown, Base, Unknown, HeldOff, Far}
@@ -131,17 +133,33 @@ run-three a d = ap (both (leb a d)) (go (decLt d (a + 3)))
     go (yes l) = simp (lt-ltb d (a + 3) l, le-leb d (a + 2) (omega arith))
     go (no l) = simp (le-ltb d (a + 3) (omega arith), lt-leb d (a + 2) (omega arith))
 
+-- n slots from a on, and what is kept
+module _ (a n d : ℕ) where
+  block-time : hasTime (block a n) d ≡ both (leb a d) (ltb d (a + n))
+  unfolding hasTime inRun some
+  block-time = let at : a + 0 + 0 ≡ a = omega arith in ap (λ (x : ℕ). both (leb x d) (ltb d (x + n))) at
+
+  kept-time : hasTime (everyFrame 1 1 true) d ≡ eqb d frameSlots
+  unfolding hasTime inRun some
+  kept-time = run-one frameSlots d
+
+  kept-and : (z t : Bool) → both (leb a d) (ltb d (a + n)) ≡ t
+      → let rows = pick z (everyFrame 1 1 true ∷ []) [] ++ (block a n ∷ []) in
+      (marksTime rows d ≡ either (both z (eqb d frameSlots)) t) × (freesTime rows d ≡ false)
+  kept-and true t e = (ap₂ either kept-time (either-false (hasTime (block a n) d) ∙ block-time ∙ e), refl)
+  kept-and false t e = (either-false (hasTime (block a n) d) ∙ block-time ∙ e, refl)
+
 holds8 : example8
-unfolding slotsOf distanceOf announces hasTime inRun some
-holds8 sync = (refl, λ d. either-false (both (leb 8193 d) (ltb d 8194)) ∙ run-one 8193 d)
+unfolding slotsOf distanceOf announces
+holds8 sync keep d = kept-and 8193 1 d (eqb keep 1) (eqb d 8193) (run-one 8193 d)
 
 holds9 : example9
-unfolding slotsOf distanceOf announces hasTime inRun some
-holds9 sync d = either-false (both (leb 16383 d) (ltb d 16386)) ∙ run-three 16383 d
+unfolding slotsOf distanceOf announces
+holds9 sync keep d = kept-and 16383 3 d (eqb keep 1) (between 16383 16385 d) (run-three 16383 d)
 
 holds10 : example10
-unfolding slotsOf distanceOf announces hasTime inRun some
-holds10 sync d = (either-false (both (leb 8192 d) (ltb d 8192)) ∙ run-none 8192 d, refl)
+unfolding slotsOf distanceOf announces
+holds10 sync keep d = kept-and 8192 0 d (eqb keep 1) false (run-none 8192 d)
 
 -- ---- the rule of four
 

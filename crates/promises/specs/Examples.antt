@@ -2,19 +2,18 @@
 -- Assumes nothing.
 use Prim.Native.Nat.{ℕ, zero, suc, _+_, _-_, _*_, _^_, _<_}
 use mathlib.Core.Path.{_≡_}
-use mathlib.Core.Bool.{false}
+use mathlib.Core.Bool.{Bool, false}
 use mathlib.Core.List.{List, [], _∷_}
 use lib.Dec.{eqb}
 use lib.IntN.{negsuc}
 use lib.ListN.{getD}
-use Rattle.laws.specs.Tests.{pick, between}
+use Rattle.laws.specs.Tests.{pick, both, either, between}
 use Rattle.laws.specs.Ranges.{howMany}
+use Rattle.limits.specs.Limits.{frameSlots}
 use Rattle.plan.specs.declared.Plan.{Plan}
 use Rattle.plan.specs.Plan.{nominal, half, slots, floorGap, ceilGap, gap}
-use Rattle.message.specs.declared.state.Incremental.{Incremental}
 use Rattle.message.specs.declared.state.State.the-variants.{Incremental as Increasing}
 use Rattle.message.specs.Signs.{signedOf}
-use Rattle.message.specs.State.{slotsOf}
 use Rattle.announcing.specs.Rows.{marksTime, freesTime}
 use Rattle.announcing.specs.Announce.{announces}
 use Rattle.ship.specs.Ship.{knownPlace}
@@ -53,9 +52,12 @@ figures p = half p ∷ slots p ∷ (floorGap p - 2 * half p) ∷ (ceilGap p + 2 
 
 -- ---- words for a message
 
--- an incremental state with this slots code and increment, at any sync and with keep 0
-abbrev announcing : ℕ → ℕ → (Incremental → Type 0) → Type 0
-announcing code increment claim = (sync : ℕ) → claim (record { sync = sync; increment = increment; code = code; keep = 0 })
+-- a message 3 with this slots code and increment, at any sync and keep, marks these times ahead, and with keep 1 the one a frame ahead; it frees none
+abbrev announcing : ℕ → ℕ → (ℕ → Bool) → Type 0
+announcing code increment times =
+    (sync keep d : ℕ)
+    → let rows = announces (Increasing (record { sync = sync; increment = increment; code = code; keep = keep })) in
+    (marksTime rows d ≡ either (both (eqb keep 1) (eqb d frameSlots)) (times d)) × (freesTime rows d ≡ false)
 
 -- ---- words for the choice
 
@@ -113,16 +115,15 @@ example7 = (signedOf 28 (2 ^ 28 - 1) ≡ negsuc 0) × (signedOf 28 (2 ^ 27) ≡ 
 
 -- 8. code 5, increment 1: one slot, 8,193 ahead
 abbrev pub example8 : Type 0
-example8 = announcing 5 1 (λ s. (slotsOf s ≡ 1) × ((d : ℕ) → marksTime (announces (Increasing s)) d ≡ eqb d 8193))
+example8 = announcing 5 1 (λ d. eqb d 8193)
 
 -- 9. code 7, increment 8191: 16,383 to 16,385 ahead
 abbrev pub example9 : Type 0
-example9 = announcing 7 8191 (λ s. (d : ℕ) → marksTime (announces (Increasing s)) d ≡ between 16383 16385 d)
+example9 = announcing 7 8191 (λ d. between 16383 16385 d)
 
 -- 10. code 5, increment 0: nothing
 abbrev pub example10 : Type 0
-example10 =
-    announcing 5 0 (λ s. (d : ℕ) → (marksTime (announces (Increasing s)) d ≡ false) × (freesTime (announces (Increasing s)) d ≡ false))
+example10 = announcing 5 0 (λ d. false)
 
 -- 11. two free; A at 900 has one slot, B at 500 two: candidates are both free ones, A's, B's earlier
 abbrev pub example11 : Type 0
