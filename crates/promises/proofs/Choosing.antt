@@ -28,7 +28,8 @@ use Rattle.register.specs.State.{State, bookIn, sourcesIn, settle, owned}
 use Rattle.register.proofs.Settling.{bookIn-settle}
 use Rattle.register.proofs.Again.{all-kinds}
 use Rattle.calls.specs.Calls.{planIn}
-use Rattle.promises.proofs.Moves.{Fine, windowIn, ownedIn, ChosenBy}
+use Rattle.choosing.specs.ChoosePromises.{windowIn}
+use Rattle.promises.proofs.Moves.{Fine, ownedIn, ChosenBy}
 use Rattle.promises.proofs.Written.{as-many, written-sources, written-present, written-plan, held-stays}
 
 -- ---- one place that becomes ours

@@ -17,9 +17,9 @@ use Rattle.announcing.specs.Rows.{booked, inBook}
 use Rattle.announcing.specs.Announce.{announces}
 use Rattle.hearing.specs.declared.Telling.{Telling}
 use Rattle.hearing.specs.Hear.{tellingIn, recordFor}
-use Rattle.candidates.specs.declared.Window.{Window}
 use Rattle.choosing.specs.declared.Wanted.{Wanted}
-use Rattle.choosing.specs.Choosing.{windowOf, anyOwn}
+use Rattle.choosing.specs.Choosing.{anyOwn}
+use Rattle.choosing.specs.ChoosePromises.{windowIn}
 use Rattle.register.specs.State.{State, newState, bookIn, sourcesIn}
 use Rattle.register.specs.Answers.{Said}
 use Rattle.calls.specs.declared.What.{What}
@@ -69,10 +69,6 @@ pub record PlannedBy (s s′ : State) : Type 0 where
   pub book : bookIn s′ ≡ released ours (bookIn s) slotTimes
   pub sources : sourcesIn (s′ .reg) ≡ sourcesIn (s .reg)
   pub present : s′ .watch .present ≡ s .watch .present
-
--- the window meant
-abbrev pub windowIn : State → Wanted → Window
-windowIn s a = windowOf (s .watch) a
 
 -- the book once the slot d ahead is ours, and those a frame apart after it, n in all
 abbrev pub ownedIn : ℕ → ℕ → Book → ℕ → Book

@@ -2,7 +2,7 @@
 -- Assumes nothing.
 use Prim.Native.Nat.{ℕ, zero, suc, _+_, _-_, _*_, _%_, _≤_, _<_}
 use mathlib.Core.Path.{_≡_, refl, sym, ap, subst, _∙_}
-use mathlib.Core.Bool.{Bool, true, false}
+use mathlib.Core.Bool.{Bool}
 use mathlib.Core.List.{List, map}
 use native.Mathlib.Decide.{ℕ-discrete}
 use native.Mathlib.Omega.{arith}
@@ -12,7 +12,6 @@ use lib.ListN.{length, getD, set, getD-replicate, List·getD-map}
 use lib.Seq.{getD-set-same, getD-set-other}
 use Rattle.laws.specs.Tests.{pick}
 use Rattle.laws.specs.Loops.{upto}
-use Rattle.laws.specs.Ranges.{some}
 use Rattle.laws.specs.Exactly.{AllHold}
 use Rattle.laws.proofs.Tests.{by-test, never}
 use Rattle.laws.proofs.Ranges.{some-hit, some-passes}
@@ -28,7 +27,7 @@ use Rattle.hearing.specs.declared.Telling.{Telling}
 use Rattle.hearing.specs.Hear.{tellingIn, recordFor, entered, stored, heard, hearTests, hears, hear}
 use Rattle.choosing.specs.declared.Wanted.{Wanted}
 use Rattle.choosing.specs.Choose.{drawnIn, chosen, replacedIn, chooseTests, chooses, choose}
-use Rattle.choosing.specs.ChoosePromises.{Chose, HeldOff}
+use Rattle.choosing.specs.ChoosePromises.{HeldOff}
 use Rattle.choosing.proofs.HoldingOff.{many-records, only-replaced-held-off}
 use Rattle.register.specs.declared.Answer.the-variants.{Begun, Passed, Planned, Set}
 use Rattle.register.specs.State.{State, newState, bookIn, withTally, withHold, tallied, settle, owned, passed, passes}
@@ -39,7 +38,7 @@ use Rattle.calls.specs.declared.What.the-variants.{Nothing, Hear, Plan, Own, Ch
 use Rattle.calls.specs.Calls.{passTests, pass, planned, planTests, plan, owning, ownTests, own, reportTests, reports, report, begin, sum, done}
 use Rattle.calls.proofs.Doing.{passes-keep}
 use Rattle.calls.proofs.Promised.{called-sized}
-use Rattle.promises.specs.Calls.{Call, answerTo, afterCall}
+use Rattle.promises.specs.Calls.{afterCall}
 use Rattle.promises.specs.Records.{recordOf, isReplaced, doneTo, becomes, RecordByCall}
 use Rattle.promises.proofs.Moving.{by-tests}
 use Rattle.promises.proofs.Written.{held-stays}

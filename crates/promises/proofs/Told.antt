@@ -17,7 +17,7 @@ use Rattle.ship.specs.Ship.{blank}
 use Rattle.hearing.specs.declared.Telling.{Telling}
 use Rattle.hearing.specs.Hear.{tellingIn, recordFor, entered, hearTests, hears, hear}
 use Rattle.register.specs.State.{State, sourcesIn, withHold, passes}
-use Rattle.register.specs.Answers.{Answered, Said, said, givenNumber, sized}
+use Rattle.register.specs.Answers.{Said, said, givenNumber, sized}
 use Rattle.calls.specs.declared.What.{What}
 use Rattle.calls.specs.declared.What.the-variants.{Nothing, Hear, Plan, Own, Choose, Report, New, Sum}
 use Rattle.calls.specs.Calls.{done}
