@@ -11,7 +11,7 @@ use message::state::{Incremental, SelfOrganised, State, SubMessage, time_out};
 
 // `slots` times in a row from `from` ahead on, again `step` farther, `times` in all, and the same in `frames` frames: marked for the station, or freed
 // if it holds them. Its parts are as small as they may be, since a report keeps its rows on the stack.
-#[derive(Drop)]
+#[derive(Clone, Copy)]
 pub struct Row {
     pub from: usize,
     pub slots: u32,

@@ -3,5 +3,4 @@ pub mod Bytes
 pub mod Fields
 pub mod Rows
 pub mod Spreading
-pub mod Walks
 pub mod Words

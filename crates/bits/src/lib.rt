@@ -1,5 +1,7 @@
 // Bits, one to a byte, and the bytes that they make. Promises: a turned byte is its index in the table with the eight bits reversed;
 // bits are stored, tested and gathered as specs/Bits.antt says.
+#![tactic(auto)]
+
 pub mod field;
 pub mod reader;
 pub mod row;

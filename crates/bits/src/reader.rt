@@ -7,7 +7,7 @@ ghost use Rattle.bits.specs.Row.{four_at, nothing_read};
 use crate::field::field;
 
 // Four fields in a row.
-#[derive(Drop)]
+#[derive(Clone, Copy)]
 pub struct Four {
     pub a: u32,
     pub b: u32,
@@ -15,7 +15,7 @@ pub struct Four {
     pub d: u32,
 }
 
-#[derive(Drop)]
+#[derive(Clone, Copy)]
 pub struct Reader<'a> {
     pub bytes: &'a [u8],
     pub at: usize,

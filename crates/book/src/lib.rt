@@ -2,6 +2,8 @@
 // record's tally stands in the record, so each operation says who lost a slot time and who got it. Promises: each operation does to the book what
 // specs/Book.antt says, for every book, also one that is not grown from a new one. specs/Promises.antt has demand 3: on a book whose tallies are the counts of
 // its slots they stay so, and all make 20,250.
+#![tactic(auto)]
+
 pub mod tally;
 
 ghost use Rattle.std.specs.Prelude.{◌≡◌, ◌+◌, ◌%◌, ◌≤◌, ◌<◌, length, get_or, replicate};
@@ -23,21 +25,21 @@ pub const OWN: u16 = RECORDS as u16 + 1;
 const ALL: u16 = SLOT_TIMES as u16;
 
 // The slot times that nobody holds, and those that are ours.
-#[derive(Drop)]
+#[derive(Clone, Copy)]
 pub struct Counts {
     pub free: u16,
     pub own: u16,
 }
 
 // What belongs to one radio channel, besides its book.
-#[derive(Drop)]
+#[derive(Clone, Copy)]
 pub struct Channel {
     pub counts: Counts,
     pub plan: Plan,
 }
 
 // What is kept besides the book and the register: now, the channel, and our own ship.
-#[derive(Drop)]
+#[derive(Clone, Copy)]
 pub struct Watch {
     pub present: usize,
     pub channel: Channel,
@@ -45,7 +47,7 @@ pub struct Watch {
 }
 
 // What was done to a place: the counts after it, who has lost it and who has got it. Both are none where nothing was done.
-#[derive(Drop)]
+#[derive(Clone, Copy)]
 pub struct Handing {
     pub counts: Counts,
     pub old: u16,

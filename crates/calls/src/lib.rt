@@ -1,6 +1,8 @@
 // The public calls: pass, hear, plan, own, choose, report, begin and sum are what is asked, and `call` does it on a lent register and a lent book. Promise: the answer
 // and what is left are those of specs/Calls.antt, for every state and every bytes; specs/Promises.antt has "given exactly when" for each call, that a refusal
 // changes nothing, and that slots which pass first are a call of their own.
+#![tactic(auto)]
+
 pub mod stages;
 pub mod told;
 
@@ -21,7 +23,7 @@ use stages::carry;
 use told::{alone, ready, told};
 
 // What is to be done once the slots have passed. What is heard is lent as bytes.
-#[derive(Drop)]
+#[derive(Clone, Copy)]
 pub enum What {
     Nothing,
     Hear,
@@ -34,7 +36,7 @@ pub enum What {
 }
 
 // How many slots pass first, and what is to be done then.
-#[derive(Drop)]
+#[derive(Clone, Copy)]
 pub struct Ask {
     pub watch: Watch,
     pub passes: u16,

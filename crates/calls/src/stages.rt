@@ -26,7 +26,7 @@ use reporting::{Reported, Time};
 use ship::Station;
 
 // How many records have a tally above 0, and all tallies together.
-#[derive(Drop)]
+#[derive(Clone, Copy)]
 pub struct Sums {
     pub stations: usize,
     pub total: u32,

@@ -23,7 +23,7 @@ const LEAST_TIME_OUT: u16 = limits::LEAST_TIME_OUT as u16;
 const MOST_TIME_OUT: u16 = limits::MOST_TIME_OUT as u16;
 
 // What is left to be done.
-#[derive(Drop)]
+#[derive(Clone, Copy)]
 pub enum Task {
     Refused(Refusal),
     Nothing,
@@ -37,7 +37,7 @@ pub enum Task {
 }
 
 // How many slots pass first, and what is left to be done then.
-#[derive(Drop)]
+#[derive(Clone, Copy)]
 pub struct Case {
     pub watch: Watch,
     pub passes: u16,

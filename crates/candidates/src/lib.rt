@@ -2,6 +2,8 @@
 // is the one that specs/Choice.antt says. specs/Promises.antt has that every candidate is picked by equally many draws, and when there is none.
 // No distance is stored. The free slots are counted by the book alone; one pass over the window looks each holder's record up in the lent register and
 // keeps the four best keys of available slots; by these and the book the candidates are listed.
+#![tactic(auto)]
+
 pub mod rounds;
 pub mod slot;
 
@@ -18,7 +20,7 @@ use slot::{Slot, holder, level_by, lower, nobodys, times};
 
 // A slot with its later frames, for the choice. `Earlier`: the slot a frame earlier is own. `OwnUnknown` to `HeldOff`: why it is not available. `Far`:
 // available at this distance.
-#[derive(Drop)]
+#[derive(Clone, Copy)]
 pub enum SlotState {
     Own,
     Earlier,
@@ -31,7 +33,7 @@ pub enum SlotState {
 }
 
 // A window's first slot is so far ahead of now, it has so many slots, and the choice is for this time-out.
-#[derive(Drop)]
+#[derive(Clone, Copy)]
 pub struct Window {
     pub present: usize,
     pub first: usize,
@@ -40,7 +42,7 @@ pub struct Window {
 }
 
 // A slot so far ahead, one of so many candidates; or none. `Taken`: the window has an own mark, so that nothing is drawn.
-#[derive(Drop)]
+#[derive(Clone, Copy)]
 pub enum Picked {
     At(usize, usize),
     NoCandidate,

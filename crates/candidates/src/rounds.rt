@@ -12,7 +12,7 @@ use crate::slot::{free_bit, smaller};
 use distance::{HELD_OFF, TOP};
 
 // The four greatest keys, 0 where there are fewer.
-#[derive(Drop)]
+#[derive(Clone, Copy)]
 pub struct Best {
     pub first: u64,
     pub second: u64,

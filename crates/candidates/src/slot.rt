@@ -15,7 +15,7 @@ use ship::{Ship, Station};
 
 // A slot: its place in the book, how many of its times are to be looked at, up to which level it is none of the best, whether the slot a frame earlier
 // is own; and our ship.
-#[derive(Drop)]
+#[derive(Clone, Copy)]
 pub struct Slot {
     pub from: usize,
     pub times: usize,

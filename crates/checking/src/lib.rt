@@ -1,5 +1,7 @@
 // The check sequence, four bytes at a time. Promise: the register goes as specs/Check.antt defines it bit by bit. It is kept mirrored, so
 // that bytes come in as they stand and none is turned.
+#![tactic(auto)]
+
 ghost use Rattle.std.specs.Prelude.{◌≡◌, ◌+◌, ◌*◌, ◌%◌, ◌≤◌, length, take, drop};
 ghost use Rattle.bits.specs.Bits.{low_first, sent_bits};
 ghost use Rattle.checking.specs.Check.{zeros, through, mirrored};

@@ -2,6 +2,8 @@
 // find the slot that the document's choice picks in the window meant (specs/Promises.antt, `FindsTheChoice`), for every book and register. `ask` and `judge` see the
 // book alone; `scan` looks the holders of its slots up in the lent register, and only where the book alone does not tell. specs/ChoosePromises.antt has the draw and the
 // rule of four, of the whole call.
+#![tactic(auto)]
+
 pub mod own;
 pub mod scanning;
 pub mod window;
@@ -20,7 +22,7 @@ use ship::Station;
 use window::{any_own, meant};
 
 // What is asked: the window of k, the time-out, and the number drawn.
-#[derive(Drop)]
+#[derive(Clone, Copy)]
 pub struct Wanted {
     pub k: u16,
     pub timeout: u16,
@@ -28,7 +30,7 @@ pub struct Wanted {
 }
 
 // A choice as the book alone has it: the window meant, whether it is taken by an own mark, and how many of its slots are free, as far as four.
-#[derive(Drop)]
+#[derive(Clone, Copy)]
 pub struct Query {
     pub watch: Watch,
     pub window: Window,

@@ -16,14 +16,14 @@ use register::{Answer, Reply, Slot, Turn, lose, win};
 use ship::Station;
 
 // A slot, for which it is not known yet how many marks it replaces; or none.
-#[derive(Drop)]
+#[derive(Clone, Copy)]
 pub enum Drawn {
     At(Slot),
     Refused(Refusal),
 }
 
 // What is to become ours: the slot, in so many frames; in none where it is refused.
-#[derive(Drop)]
+#[derive(Clone, Copy)]
 pub struct Owning {
     pub watch: Watch,
     pub drawn: Drawn,

@@ -1,5 +1,7 @@
 // How far a station is from us, and its level for the choice: why its slots may not be reused, or how far it is. Promises: as specs/Distance.antt says, on
 // signed positions; specs/Promises.antt has that the level of every station is below that of a time that nobody holds.
+#![tactic(auto)]
+
 ghost use Rattle.std.specs.Prelude.{◌≡◌, ◌<◌, nat_abs};
 ghost use Rattle.distance.specs.Distance.{apart, round, distance, level_of};
 

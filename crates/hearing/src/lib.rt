@@ -1,6 +1,8 @@
 // Hearing: what a message from another station does to the register and to the book. Promises: `find` looks its record up in the lent register, `store` enters it
 // there, `free_times` and `mark_times` book what it announces, each as specs/Hear.antt says, for every state. specs/Promises.antt has that
 // the record is the lowest; when each number is given stands with the calls.
+#![tactic(auto)]
+
 ghost use Rattle.std.specs.Prelude.{◌≡◌, [], ◌<◌, eqb, ltb, length, get_or};
 ghost use Rattle.laws.specs.Tests.{pick};
 ghost use Rattle.laws.specs.Counting.{one};
@@ -26,7 +28,7 @@ use register::{Answer, Marks, Reply, Turn, lose, win};
 use ship::Station;
 
 // What hearing needs of a message.
-#[derive(Drop)]
+#[derive(Clone, Copy)]
 pub struct Telling {
     pub source: u32,
     pub repeat: u32,
@@ -37,21 +39,21 @@ pub struct Telling {
 }
 
 // A message that is heard, and the watch.
-#[derive(Drop)]
+#[derive(Clone, Copy)]
 pub struct Hearing {
     pub watch: Watch,
     pub telling: Telling,
 }
 
 // Whether a report can be booked.
-#[derive(Drop)]
+#[derive(Clone, Copy)]
 pub enum Fit {
     Yes,
     Refused(Refusal),
 }
 
 // A report with the station's record, the rows that it announces, and the first times that these free and mark. Nothing is done where it is not fit.
-#[derive(Drop)]
+#[derive(Clone, Copy)]
 pub struct Booking {
     pub watch: Watch,
     pub telling: Telling,

@@ -19,7 +19,7 @@ use Rattle.laws.proofs.Tests.{never}
 
 -- what fits in 32 bits, read back from them
 pub back : (z : ℤ) → mag z < 2147483648 → to_z w32 (of_z w32 z) ≡ z
-back z h = to_z-of_z (sfits_of h)
+back z h = to_z-of_z {w = w32} (sfits_of h)
 
 -- what decides whether z fits is no more than z without its sign
 mag-le : (z : ℤ) → mag z ≤ nat_abs z

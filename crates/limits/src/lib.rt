@@ -1,5 +1,6 @@
 // The limits of document 01, each once and by name; one that follows from others is computed from them. Promise: none of its own, since there is no
 // function here. specs/Limits.antt has the same limits for definitions, and every function that uses one is proved against those.
+#![tactic(auto)]
 
 // ---- the slot book
 

@@ -1,6 +1,8 @@
 // A message as a list of numbers, which is how the C face hands it over: its fields in the order of document 01, then the state taken
 // apart. Promises: the list is `numbers_of` the message, and what a list says is `message_in` it (specs/Listing.antt); a message that has
 // its widths comes back from its list (specs/Promises.antt).
+#![tactic(auto)]
+
 pub mod getting;
 pub mod putting;
 

@@ -1,6 +1,8 @@
 // Messages 1 to 4. Promises: `read` gives every field of 21 bytes as specs/Message.antt places it, and `write` the 21 bytes that read so;
 // a refusal writes nothing. specs/Promises.antt has both round trips, "given exactly when" for each number, and that no second answer
 // meets the contract. No message can be made whose state does not belong to its id, or whose sub-message not to its time-out.
+#![tactic(auto)]
+
 pub mod reading;
 pub mod signs;
 pub mod state;
@@ -16,7 +18,7 @@ use state::{Incremental, SelfOrganised};
 use writing::{Sheet, fits, put, sheet_of};
 
 // The position report of messages 1, 2 and 3.
-#[derive(Drop)]
+#[derive(Clone, Copy)]
 pub struct Report {
     pub repeat: u32,
     pub source: u32,
@@ -35,7 +37,7 @@ pub struct Report {
 }
 
 // The base station's report of message 4.
-#[derive(Drop)]
+#[derive(Clone, Copy)]
 pub struct Base {
     pub repeat: u32,
     pub source: u32,
@@ -54,7 +56,7 @@ pub struct Base {
     pub raim: u32,
 }
 
-#[derive(Drop)]
+#[derive(Clone, Copy)]
 pub enum Message {
     One(Report, SelfOrganised),
     Two(Report, SelfOrganised),
@@ -64,13 +66,13 @@ pub enum Message {
     Other,
 }
 
-#[derive(Drop)]
+#[derive(Clone, Copy)]
 pub enum Received {
     Message(Message),
     Refused(Refusal),
 }
 
-#[derive(Drop)]
+#[derive(Clone, Copy)]
 pub enum Written {
     Done,
     Refused(Refusal),

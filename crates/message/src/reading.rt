@@ -16,14 +16,14 @@ use limits::MESSAGE;
 use numbers::Refusal;
 
 // The id of a message, by which its fields are known; or why there is no message.
-#[derive(Drop)]
+#[derive(Clone, Copy)]
 pub enum Head {
     Known(u32),
     Refused(Refusal),
 }
 
 // All fields of a message as they stand. The last one is the state as one number, in message 4 with the raim flag before it.
-#[derive(Drop)]
+#[derive(Clone, Copy)]
 pub struct Fields {
     pub a: Four,
     pub b: Four,
@@ -32,13 +32,13 @@ pub struct Fields {
 }
 
 // A report, and its state as one number of 19 bits.
-#[derive(Drop)]
+#[derive(Clone, Copy)]
 pub struct ReportRead {
     pub report: Report,
     pub state: u32,
 }
 
-#[derive(Drop)]
+#[derive(Clone, Copy)]
 pub struct BaseRead {
     pub base: Base,
     pub state: u32,

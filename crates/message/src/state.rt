@@ -5,7 +5,7 @@ ghost use Rattle.message.specs.Sheet.{clock_from, sub_from, organised_parts, org
 
 use bits::reader::Four;
 
-#[derive(Drop)]
+#[derive(Clone, Copy)]
 pub struct Clock {
     pub hour: u32,
     pub minute: u32,
@@ -13,13 +13,13 @@ pub struct Clock {
 }
 
 // A sub-message that every other time-out has; the pairs say which of them.
-#[derive(Drop)]
+#[derive(Clone, Copy)]
 pub struct Counted {
     pub pairs: u8,
     pub number: u32,
 }
 
-#[derive(Drop)]
+#[derive(Clone, Copy)]
 pub enum SubMessage {
     // time-out 0: the offset
     Offset(u32),
@@ -31,13 +31,13 @@ pub enum SubMessage {
     Stations(Counted),
 }
 
-#[derive(Drop)]
+#[derive(Clone, Copy)]
 pub struct SelfOrganised {
     pub sync: u32,
     pub sub: SubMessage,
 }
 
-#[derive(Drop)]
+#[derive(Clone, Copy)]
 pub struct Incremental {
     pub sync: u32,
     pub increment: u32,
@@ -45,7 +45,7 @@ pub struct Incremental {
     pub keep: u32,
 }
 
-#[derive(Drop)]
+#[derive(Clone, Copy)]
 pub enum State {
     SelfOrganised(SelfOrganised),
     Incremental(Incremental),

@@ -15,7 +15,7 @@ use bits::reader::Four;
 use bits::row::{fit_four, put_four};
 
 // All fields of a message. What their widths are goes by whether it is the base station's, and whether its state is incremental.
-#[derive(Drop)]
+#[derive(Clone, Copy)]
 pub struct Rows {
     pub a: Four,
     pub b: Four,
@@ -26,7 +26,7 @@ pub struct Rows {
     pub increments: bool,
 }
 
-#[derive(Drop)]
+#[derive(Clone, Copy)]
 pub enum Sheet {
     Known(Rows),
     // of an id that is not 1 to 4

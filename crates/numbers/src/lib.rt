@@ -1,9 +1,11 @@
 // The numbers given back: what can be unfit about an input, and the paper's number for each. Every refusal of every call is one of
 // these, and every promise about numbers goes through `number_of`.
+#![tactic(auto)]
+
 ghost use Rattle.std.specs.Prelude.{◌≡◌};
 ghost use Rattle.numbers.specs.Numbers.{number_of};
 
-#[derive(Drop)]
+#[derive(Clone, Copy)]
 pub enum Refusal {
     // a bit byte is neither 0 nor 1
     NotBits,

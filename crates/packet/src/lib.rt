@@ -1,6 +1,8 @@
 // Link packets, from opening to closing flag. Promises: each of `write` and `read` gives, for every input, the answer and leaves in the
 // lent buffer the content that specs/Packet.antt says; a refusal leaves the buffer as it was. specs/Promises.antt has both round trips,
 // "given exactly when" for each number, and that no second answer meets the contract.
+#![tactic(auto)]
+
 pub mod reading;
 pub mod writing;
 
@@ -14,14 +16,14 @@ use writing::build;
 
 const FLAG: u8 = 0x7e;
 
-#[derive(Drop)]
+#[derive(Clone, Copy)]
 pub enum Packed {
     // so many bits
     Bits(usize),
     Refused(Refusal),
 }
 
-#[derive(Drop)]
+#[derive(Clone, Copy)]
 pub enum Unpacked {
     // so many bytes
     Bytes(usize),

@@ -1,5 +1,6 @@
 // What the bits of a packet hold: the bytes between its flags, unstuffed, and the payload where its check is right.
 ghost use Rattle.std.specs.Prelude.{◌≡◌, true, ◌++◌, ◌+◌, ◌-◌, ◌*◌, ◌/◌, ◌%◌, ◌^◌, ◌≤◌, ◌<◌, length, take, drop};
+ghost use Rattle.laws.specs.Lists.{over};
 ghost use Rattle.limits.specs.Limits.{payload_bytes, least_checked, most_checked, least_packet, most_packet};
 ghost use Rattle.bits.specs.Bits.{low_first, sent_bits, all_bits};
 ghost use Rattle.checking.specs.Check.{zeros};
@@ -9,7 +10,6 @@ ghost use Rattle.packet.specs.Reading.{raw_bytes, Unstuffed};
 
 use crate::Unpacked;
 use bits::{store_eight, word_at};
-use bytes::copy;
 use checking::register_after;
 use limits::{LEAST_CHECKED, MOST_BODY, MOST_CHECKED};
 use numbers::Refusal;
@@ -62,6 +62,16 @@ fn unstuff(bits: &[u8], raw: &mut [u8]) -> Taking
     let from = 8 + over;
     let e = n - 8;
     take_all(&bits[from..e], raw, first)
+}
+
+// Copies bytes to the front of a buffer, and says how many.
+fn copy(from: &[u8], to: &mut [u8]) -> usize
+    requires { length from.now ≤ length to.old }
+    ensures { (result ≡ length from.now) × (to.new ≡ over from.now to.old) }
+{
+    let n = from.len();
+    to[..n].copy_from_slice(from);
+    n
 }
 
 // The check that two bytes tell, mirrored as the register is.

@@ -23,7 +23,7 @@ fn put_flag(out: &mut [u8], at: usize)
 }
 
 // Where writing stands: where sending does, and the register after what was sent.
-#[derive(Drop)]
+#[derive(Clone, Copy)]
 pub struct Progress {
     pub place: Sending,
     pub reg: u16,

@@ -1,6 +1,8 @@
 // The plan of own reports: r reports in a frame of 2250 slots, from the start slot s on. It goes in whole and comes back changed. Promises:
 // nominal slots and windows are those of specs/Plan.antt, in whole numbers, with no step that is added up; `window_of` tells of each slot
 // the one window that it lies in, or that there is none. specs/Promises.antt has the gaps, and that windows keep apart as demand 3 asks.
+#![tactic(auto)]
+
 ghost use Rattle.std.specs.Prelude.{◌≡◌, ◌<◌, T, ◌↔◌};
 ghost use Rattle.limits.specs.Limits.{frame_slots};
 ghost use Rattle.plan.specs.Plan.{InRange, nominal, half, first, slots, InWindow, Tells};
@@ -12,14 +14,14 @@ const TENTH: u16 = limits::TENTH as u16;
 const MOST_RATE: u16 = limits::MOST_RATE as u16;
 
 // Any rate and start can stand here; a plan out of its range counts as none.
-#[derive(Drop)]
+#[derive(Clone, Copy)]
 pub struct Plan {
     pub rate: u16,
     pub start: u16,
 }
 
 // Where a slot lies: in the window of this k, or in none.
-#[derive(Drop)]
+#[derive(Clone, Copy)]
 pub enum Lies {
     In(u16),
     Outside,

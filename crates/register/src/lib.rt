@@ -1,6 +1,8 @@
 // The lent register and the state that the calls go on: who has lost a slot time and who has got it has its tally follow, in its own record. Promises: `lose` and
 // `win` change one record each, and that one as specs/Register.antt says; specs/State.antt has the state, and what becomes of it where something is done to
 // the book. Both functions are thin and proved by hand, as instances of `walks`.
+#![tactic(auto)]
+
 ghost use Rattle.std.specs.Prelude.{◌≡◌, length};
 ghost use Rattle.limits.specs.Limits.{records};
 ghost use Rattle.book.specs.Book.{record_at};
@@ -15,7 +17,7 @@ use ship::Station;
 const HOLD_OFF: u16 = limits::HOLD_OFF as u16;
 
 // A run over slot times, between two of them: what was done to the last one; the next one; how many are left, and how many counted.
-#[derive(Drop)]
+#[derive(Clone, Copy)]
 pub struct Turn {
     pub handing: Handing,
     pub at: usize,
@@ -24,14 +26,14 @@ pub struct Turn {
 }
 
 // A station that was heard, and how many slot times are its by this report.
-#[derive(Drop)]
+#[derive(Clone, Copy)]
 pub struct Marks {
     pub source: u32,
     pub marks: usize,
 }
 
 // An own slot: how far ahead, its slot number, out of how many candidates, and how many marks it replaced.
-#[derive(Drop)]
+#[derive(Clone, Copy)]
 pub struct Slot {
     pub distance: usize,
     pub slot: usize,
@@ -39,7 +41,7 @@ pub struct Slot {
     pub replaced: usize,
 }
 
-#[derive(Drop)]
+#[derive(Clone, Copy)]
 pub enum Answer {
     Passed,
     Heard(Marks),
@@ -53,7 +55,7 @@ pub enum Answer {
 }
 
 // The answer, and the watch after the call.
-#[derive(Drop)]
+#[derive(Clone, Copy)]
 pub struct Reply {
     pub watch: Watch,
     pub answer: Answer,

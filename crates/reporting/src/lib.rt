@@ -1,5 +1,7 @@
 // The report of a slot of ours: time-out and sub-message. Promises: `report` gives what specs/Report.antt defines, for every book and every plan in its range; it only
 // looks. specs/Promises.antt has what the time-out and the offset say of the book.
+#![tactic(auto)]
+
 pub mod look;
 
 ghost use Rattle.std.specs.Prelude.{◌≡◌, ◌≤◌, length};
@@ -15,14 +17,14 @@ use numbers::Refusal;
 use plan::Plan;
 
 // The time-out follows from which sub-message it is.
-#[derive(Drop)]
+#[derive(Clone, Copy)]
 pub enum Reported {
     Done(SubMessage),
     Refused(Refusal),
 }
 
 // The hour and minute that the caller has.
-#[derive(Drop)]
+#[derive(Clone, Copy)]
 pub struct Time {
     pub hour: u32,
     pub minute: u32,

@@ -1,11 +1,13 @@
 // Our own ship and another station: what is kept of each, what a source and a position can be, and the call that sets our own. Promises: `own` gives the
 // answer that specs/Ship.antt defines. specs/Promises.antt has "given exactly when" for each number, and that no second answer meets the contract.
+#![tactic(auto)]
+
 ghost use Rattle.std.specs.Prelude.{◌≡◌};
 ghost use Rattle.ship.specs.Ship.{known_place, unknown_ship, blank, fair_source, own_place, own_answer};
 
 use numbers::Refusal;
 
-#[derive(Drop)]
+#[derive(Clone, Copy)]
 pub struct Ship {
     pub source: u32,
     pub latitude: i32,
@@ -14,7 +16,7 @@ pub struct Ship {
 
 // A record of the register: another station, how many slot times it holds, and for how many slots it is held off.
 #[repr(C)]
-#[derive(Drop)]
+#[derive(Clone, Copy)]
 pub struct Station {
     pub source: u32,
     pub base: bool,
@@ -24,7 +26,7 @@ pub struct Station {
     pub hold: u16,
 }
 
-#[derive(Drop)]
+#[derive(Clone, Copy)]
 pub enum Owned {
     Done(Ship),
     Refused(Refusal),

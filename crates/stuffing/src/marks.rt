@@ -4,7 +4,7 @@ ghost use Rattle.std.specs.Prelude.{◌≡◌};
 ghost use Rattle.stuffing.specs.Marks.{fives_of, up_to_lowest};
 
 // Bits, the marks on them, and how many marks are done with.
-#[derive(Drop)]
+#[derive(Clone, Copy)]
 pub struct Marked {
     pub bits: u64,
     pub marks: u64,

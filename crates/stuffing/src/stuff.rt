@@ -10,7 +10,7 @@ use bits::turn::turn;
 use bits::{spread, store_eight};
 
 // Where sending stands: the next place, and the last four bits sent.
-#[derive(Drop)]
+#[derive(Clone, Copy)]
 pub struct Sending {
     pub at: usize,
     pub tail: u64,

@@ -9,7 +9,7 @@ use bits::store_eight;
 
 // Where taking bits stands: the last five, whether one that was put in was 1, the four bytes begun and how many bits they have, and how
 // many bytes are whole.
-#[derive(Drop)]
+#[derive(Clone, Copy)]
 pub struct Taking {
     pub tail: u64,
     pub spoilt: bool,

@@ -1,5 +1,7 @@
 // Numbers as text at the start of a lent buffer. Promise: the digits that specs/Text.antt defines, how many bytes they take, and the rest
 // of the buffer as it was.
+#![tactic(auto)]
+
 ghost use Rattle.std.specs.Prelude.{◌+◌, ◌*◌, ◌≤◌, ◌≡◌, length};
 ghost use Rattle.laws.specs.Lists.{over};
 ghost use Rattle.limits.specs.Limits.{most_digits, number_room};
@@ -9,6 +11,16 @@ use limits::DIGITS;
 
 // The place of the last digit in a text of as many as there can be.
 const LAST: usize = DIGITS - 1;
+
+// Copies bytes to the front of a buffer, and says how many.
+fn copy(from: &[u8], to: &mut [u8]) -> usize
+    requires { length from.now ≤ length to.old }
+    ensures { (result ≡ length from.now) × (to.new ≡ over from.now to.old) }
+{
+    let n = from.len();
+    to[..n].copy_from_slice(from);
+    n
+}
 
 // A space, and n in decimal.
 pub fn put_number(n: u64, out: &mut [u8]) -> usize
@@ -38,7 +50,7 @@ pub fn put_row(word: &[u8], numbers: &[u64], out: &mut [u8]) -> usize
     requires { length word.now + number_room * length numbers.now ≤ length out.old }
     ensures { (result ≡ length (row word.now numbers.now)) × (out.new ≡ over (row word.now numbers.now) out.old) }
 {
-    let mut at = bytes::copy(word, out);
+    let mut at = copy(word, out);
     for i in 0..numbers.len() {
         at += put_number(numbers[i], &mut out[at..]);
     }
@@ -59,5 +71,5 @@ fn put_decimal(n: u64, out: &mut [u8]) -> usize
         i -= 1;
     }
     text[i] = 48 + rest as u8;
-    bytes::copy(&text[i..], out)
+    copy(&text[i..], out)
 }

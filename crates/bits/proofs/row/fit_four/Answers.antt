@@ -1,0 +1,8 @@
+use native.Mathlib.Omega.{arith}
+use lib.Pow.{shr_le}
+use Rattle.bits.proofs.Rows.{four-fit}
+use borrow.Author.Rules.{rules}
+use Rattle.bits.proofs.row.fit_four.Goals as goal
+
+pub returns : goal.returns
+returns c = four-fit _ _ _ _ _

@@ -1,0 +1,8 @@
+use mathlib.Core.Path.{refl}
+use borrow.Author.Rules.{rules}
+use Rattle.plan.specs.Plan.{half}
+use Rattle.plan.proofs.Plan.half.Goals as goal
+
+pub returns : goal.returns
+unfolding half
+returns c = refl

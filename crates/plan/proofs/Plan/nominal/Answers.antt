@@ -1,0 +1,10 @@
+use mathlib.Core.Path.{refl}
+use native.Mathlib.Omega.{arith}
+use borrow.Author.Rules.{rules}
+use Rattle.plan.specs.Plan.{nominal, along}
+use Rattle.plan.proofs.Gaps.{along-most}
+use Rattle.plan.proofs.Plan.nominal.Goals as goal
+
+pub returns : goal.returns
+unfolding nominal along
+returns c = refl

@@ -1,0 +1,15 @@
+use native.Mathlib.Omega.{arith}
+use borrow.Author.Rules.{rules}
+use Rattle.plan.specs.Plan.{slots}
+use Rattle.plan.proofs.Gaps.{half-most}
+use Rattle.plan.proofs.Plan.slots.Goals as goal
+
+pub overflow_mul-result : goal.overflow_mul-result
+overflow_mul-result c = omega (arith, c.half.ensures, half-most c.args.self)
+
+pub overflow_add-result : goal.overflow_add-result
+overflow_add-result c = omega (arith, c.half.ensures, half-most c.args.self)
+
+pub returns : goal.returns
+unfolding slots
+returns c = rw c.half.ensures
