@@ -1,7 +1,12 @@
 -- The records of a list changed one after the other, on lists alone. Assumes nothing.
 --     upto         the first i are changed by g, and the others are as they were
 --     long         so many as before.        one_more     and the next one.        all          at the end each is
-use Rattle.walks.proofs.Words.{◌≡◌, refl, sym, ap, ◌∙◌, ℕ, zero, suc, ◌+◌, ◌≤◌, not-suc-le-zero, le_of_suc-le-suc, add-one, List, [], ◌∷◌, map, length, set, get_or}
+use mathlib.Core.Path.{◌≡◌, refl, sym, ap, ◌∙◌}
+use Prim.Native.Nat.{ℕ, zero, suc, ◌+◌, ◌≤◌}
+use native.Mathlib.Nat.{not-suc-le-zero, le_of_suc-le-suc}
+use native.Mathlib.Numerals.{add-one}
+use mathlib.Core.List.{List, [], ◌∷◌, map}
+use lib.ListN.{length, set, get_or}
 
 module _ {R : Type 0} (g : R → R) where
   abbrev pub upto : ℕ → List R → List R

@@ -1,5 +1,7 @@
 -- One turn more of a fold. Assumes nothing.
-use Rattle.walks.proofs.Words.{◌≡◌, refl, sym, ap, ◌∙◌, ℕ, suc, ◌+◌, add-one}
+use mathlib.Core.Path.{◌≡◌, refl, sym, ap, ◌∙◌}
+use Prim.Native.Nat.{ℕ, suc, ◌+◌}
+use native.Mathlib.Numerals.{add-one}
 use Rattle.walks.specs.Folded.{folded_once, folded}
 
 module _ {S X Y : Type 0} (s₀ : S) (a : S → ℕ → X) (b : X → Y) (c : S → X → Y → ℕ → S) where

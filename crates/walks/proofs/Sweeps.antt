@@ -1,5 +1,10 @@
 -- One turn more of a sweep: what is left still gives the whole. Assumes nothing.
-use Rattle.walks.proofs.Words.{◌≡◌, refl, sym, ap, ◌∙◌, ℕ, suc, ◌+◌, ◌≤◌, ◌<◌, add-one, List, [], ◌∷◌, length, get_or, behind as drop, drop_of_length-le, drop-cons}
+use mathlib.Core.Path.{◌≡◌, refl, sym, ap, ◌∙◌}
+use Prim.Native.Nat.{ℕ, suc, ◌+◌, ◌≤◌, ◌<◌}
+use native.Mathlib.Numerals.{add-one}
+use mathlib.Core.List.{List, [], ◌∷◌}
+use lib.ListN.{length, get_or, drop, drop_of_length-le}
+use lib.Seq.{drop-cons}
 use Rattle.walks.specs.Swept.{swept}
 
 module _ {S R : Type 0} (c : S → R → ℕ → S) where
