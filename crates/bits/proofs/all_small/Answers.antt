@@ -1,9 +1,6 @@
-use Prim.Native.Nat.{◌-◌}
 use mathlib.Core.Path.{sym, ◌∙◌}
-use borrow.Author.Rules.{rules}
-use lib.ListN.{length}
-use Rattle.laws.proofs.Loops.{Fold, fold-none, fold_more, fold_end}
-use Rattle.bits.proofs.Bits.{up_to, up_to-larger, up_to-same, up_to-end}
+use Rattle.laws.proofs.Loops.{fold_more, fold_end}
+use Rattle.bits.proofs.Bits.{up_to-larger, up_to-same, up_to-end}
 use Rattle.bits.proofs.all_small.Goals as goal
 
 pub loop-i-preserved-then-b-most : goal.loop-i-preserved-then-b-most

@@ -1,9 +1,7 @@
 use Prim.Native.Nat.{◌-◌}
-use mathlib.Core.Path.{sym, ◌∙◌}
-use borrow.Author.Rules.{rules}
 use lib.ListN.{length}
-use Rattle.laws.proofs.Loops.{Fold, fold-none, fold_more, fold_end}
-use Rattle.bits.proofs.Bits.{up_to, up_to-larger, up_to-same, up_to-end}
+use Rattle.laws.proofs.Loops.{Fold}
+use Rattle.bits.proofs.Bits.{up_to}
 use Rattle.bits.proofs.all_small.Given as goal
 
 abbrev pub invariant-loop-i : goal.invariant-loop-i

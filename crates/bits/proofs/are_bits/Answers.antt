@@ -2,9 +2,7 @@ use mathlib.Core.Path.{sym, ◌∙◌}
 use Prim.Native.Nat.{◌-◌, ◌*◌, ◌/◌}
 use native.Mathlib.Omega.{arith}
 use lib.ListN.{length}
-use lib.Seq.{length-take-le}
 use Rattle.bits.proofs.Bits.{blocks-yes, blocks-no}
-use borrow.Author.Rules.{rules}
 use Rattle.bits.proofs.are_bits.Goals as goal
 
 pub returns-then-all_small : goal.returns-then-all_small

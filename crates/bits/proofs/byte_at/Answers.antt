@@ -2,7 +2,6 @@ use mathlib.Core.Path.{◌≡◌}
 use Prim.Native.Nat.{◌+◌, ◌≤◌}
 use native.Mathlib.Omega.{arith}
 use Rattle.bits.proofs.Spreading.{gathered, four-small}
-use borrow.Author.Rules.{rules}
 use Rattle.bits.proofs.byte_at.Goals as goal
 use Rattle.bits.proofs.byte_at.Goals.{After-four_at-2}
 

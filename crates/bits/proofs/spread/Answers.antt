@@ -1,6 +1,5 @@
 use native.Mathlib.Omega.{arith}
 use Rattle.bits.proofs.Spreading.{spread-bits}
-use borrow.Author.Rules.{rules}
 use Rattle.bits.proofs.spread.Goals as goal
 
 pub returns : goal.returns

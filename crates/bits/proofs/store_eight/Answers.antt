@@ -1,8 +1,5 @@
-use native.Mathlib.Omega.{arith}
-use lib.ListN.{length-set}
 use Rattle.bits.specs.Bits.{eight_of}
 use Rattle.bits.proofs.Spreading.{eight-sets}
-use borrow.Author.Rules.{rules}
 use Rattle.bits.proofs.store_eight.Goals as goal
 
 pub returns : goal.returns

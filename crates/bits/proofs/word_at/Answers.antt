@@ -1,5 +1,4 @@
 use Rattle.bits.proofs.Spreading.{word-is}
-use borrow.Author.Rules.{rules}
 use Rattle.bits.proofs.word_at.Goals as goal
 
 pub returns : goal.returns

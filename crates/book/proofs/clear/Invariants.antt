@@ -1,13 +1,9 @@
 -- `clear` meets its contract: the first slots are free, the others are as they were.
 -- Assumes nothing.
-use mathlib.Core.Path.{◌≡◌, refl, ap, ◌∙◌}
-use mathlib.Core.List.{List, ◌++◌, append-nil}
-use Prim.Native.Nat.{ℕ, ◌≤◌, ◌-◌}
-use native.Mathlib.Omega.{arith}
-use lib.ListN.{length, set, drop, replicate}
-use borrow.Author.Fill.{fill_more}
-use Rattle.laws.proofs.Lists.{done}
-use borrow.Author.Rules.{rules}
+use mathlib.Core.Path.{◌≡◌}
+use mathlib.Core.List.{◌++◌}
+use Prim.Native.Nat.{◌≤◌, ◌-◌}
+use lib.ListN.{length, drop, replicate}
 use Rattle.book.proofs.clear.Given as goal
 
 abbrev pub invariant-loop-at : goal.invariant-loop-at

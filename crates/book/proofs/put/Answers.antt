@@ -1,6 +1,5 @@
 use mathlib.Core.Path.{refl}
 use Rattle.book.proofs.Following.{puts}
-use borrow.Author.Rules.{rules}
 use Rattle.book.proofs.put.Goals as goal
 
 pub returns : goal.returns

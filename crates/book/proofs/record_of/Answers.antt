@@ -1,7 +1,6 @@
 use mathlib.Core.Path.{sym, ◌∙◌}
 use native.Mathlib.Omega.{arith}
 use Rattle.book.proofs.Holders.{record_is, its-record, no_record}
-use borrow.Author.Rules.{rules}
 use Rattle.book.proofs.record_of.Goals as goal
 
 pub overflow_sub-result : goal.overflow_sub-result

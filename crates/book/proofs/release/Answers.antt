@@ -1,9 +1,4 @@
-use mathlib.Core.Path.{◌≡◌, ap, ◌∙◌}
-use Prim.Native.Nat.{◌≤◌, ◌-◌}
-use native.Mathlib.Omega.{arith}
-use lib.ListN.{length}
 use Rattle.laws.proofs.Upto.{upto-none, upto-more}
-use Rattle.book.specs.Book.{ours, book_of, released, Gives}
 use borrow.Author.Rules.{rules}
 use Rattle.book.proofs.release.Goals as goal
 

@@ -1,10 +1,7 @@
-use mathlib.Core.Path.{◌≡◌, ap, ◌∙◌}
+use mathlib.Core.Path.{◌≡◌}
 use Prim.Native.Nat.{◌≤◌, ◌-◌}
-use native.Mathlib.Omega.{arith}
 use lib.ListN.{length}
-use Rattle.laws.proofs.Upto.{upto-none, upto-more}
-use Rattle.book.specs.Book.{ours, book_of, released, Gives}
-use borrow.Author.Rules.{rules}
+use Rattle.book.specs.Book.{ours, released, Gives}
 use Rattle.book.proofs.release.Given as goal
 
 abbrev pub invariant-loop-at : goal.invariant-loop-at

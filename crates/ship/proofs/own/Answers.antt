@@ -1,9 +1,7 @@
 -- `ship::own` meets its contract: each return by its lemma of proofs/Answers.antt.
 -- Assumes nothing.
 use mathlib.Core.Path.{sym, ◌∙◌}
-use borrow.Author.Rules.{rules}
 use lib.IntN.{ℤ}
-use Rattle.laws.proofs.Tests.{was-false, was-true}
 use Rattle.ship.specs.Ship.{own_place}
 use Rattle.ship.specs.declared.Owned.{Owned}
 use Rattle.ship.specs.declared.Owned.TheVariants.{Done}

@@ -1,7 +1,6 @@
 -- `ship::stated` meets its contract: each return by its lemma of proofs/Places.antt.
 -- Assumes nothing.
 use mathlib.Core.Path.{◌∙◌}
-use borrow.Author.Rules.{rules}
 use Rattle.ship.specs.Ship.{known_place}
 use Rattle.ship.proofs.Places.{read_back, longitude-decides, own-elsewhere}
 use Rattle.ship.proofs.stated.Goals as goal

@@ -4,7 +4,6 @@ use lib.ListN.{length}
 use lib.Pow.{pow_mono}
 use Rattle.bits.proofs.Fields.{field_bound}
 use Rattle.bits.proofs.Words.{Holds, field_is}
-use borrow.Author.Rules.{rules}
 use Rattle.bits.proofs.field.field.Goals as goal
 use Rattle.bits.proofs.field.field.Goals.{After-word_at}
 

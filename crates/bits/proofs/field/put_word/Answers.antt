@@ -2,7 +2,6 @@ use mathlib.Core.Path.{ap, ◌∙◌}
 use lib.Seq.{sets}
 use Rattle.bits.specs.Bits.{eight_of}
 use Rattle.bits.proofs.Words.{swap_bytes}
-use borrow.Author.Rules.{rules}
 use Rattle.bits.proofs.field.put_word.Goals as goal
 
 pub returns : goal.returns

@@ -1,6 +1,5 @@
 use mathlib.Core.Path.{◌∙◌}
 use Rattle.bits.proofs.Words.{swap-loaded}
-use borrow.Author.Rules.{rules}
 use Rattle.bits.proofs.field.word_at.Goals as goal
 
 pub returns : goal.returns

@@ -1,7 +1,4 @@
-use native.Mathlib.Omega.{arith}
-use lib.Pow.{shr_le}
 use Rattle.bits.proofs.Rows.{four-fit}
-use borrow.Author.Rules.{rules}
 use Rattle.bits.proofs.row.fit_four.Goals as goal
 
 pub returns : goal.returns

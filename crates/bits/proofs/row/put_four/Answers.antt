@@ -3,7 +3,6 @@ use Prim.Native.Nat.{◌+◌}
 use native.Mathlib.Omega.{arith}
 use Rattle.bits.specs.Field.{put_field}
 use Rattle.bits.proofs.Rows.{two-64, three-64, four-64, four_is, four-fits, four-laid}
-use borrow.Author.Rules.{rules}
 use Rattle.bits.proofs.row.put_four.Goals as goal
 
 pub overflow_add-two : goal.overflow_add-two

@@ -1,7 +1,4 @@
 use native.Mathlib.Omega.{arith}
-use lib.Dec.{ltb→lt, lt→ltb}
-use borrow.Author.Rules.{rules}
-use Rattle.plan.specs.Plan.{slots, first, since}
 use Rattle.plan.proofs.Gaps.{first_below}
 use Rattle.plan.proofs.Plan.covers.Goals as goal
 

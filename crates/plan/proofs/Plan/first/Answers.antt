@@ -1,5 +1,4 @@
 use native.Mathlib.Omega.{arith}
-use borrow.Author.Rules.{rules}
 use Rattle.plan.specs.Plan.{first}
 use Rattle.plan.proofs.Gaps.{nominal-below, half-most}
 use Rattle.plan.proofs.Plan.first.Goals as goal

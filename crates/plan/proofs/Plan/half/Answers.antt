@@ -1,5 +1,4 @@
 use mathlib.Core.Path.{refl}
-use borrow.Author.Rules.{rules}
 use Rattle.plan.specs.Plan.{half}
 use Rattle.plan.proofs.Plan.half.Goals as goal
 

@@ -1,8 +1,5 @@
 use mathlib.Core.Path.{refl}
-use native.Mathlib.Omega.{arith}
-use borrow.Author.Rules.{rules}
 use Rattle.plan.specs.Plan.{nominal, along}
-use Rattle.plan.proofs.Gaps.{along-most}
 use Rattle.plan.proofs.Plan.nominal.Goals as goal
 
 pub returns : goal.returns

@@ -1,5 +1,4 @@
 use native.Mathlib.Omega.{arith}
-use borrow.Author.Rules.{rules}
 use Rattle.plan.specs.Plan.{slots}
 use Rattle.plan.proofs.Gaps.{half-most}
 use Rattle.plan.proofs.Plan.slots.Goals as goal

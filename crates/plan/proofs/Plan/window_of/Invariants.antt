@@ -1,8 +1,5 @@
 use Prim.Native.Nat.{ℕ, ◌≤◌, ◌<◌, ◌-◌}
-use native.Mathlib.Omega.{arith}
-use borrow.Author.Rules.{rules}
 use Rattle.plan.specs.Plan.{InWindow}
-use Rattle.plan.proofs.Windows.{none_more}
 use Rattle.plan.proofs.Plan.window_of.Given as goal
 
 -- none of the windows gone through has the slot
