@@ -2,5 +2,4 @@ pub mod Complement
 pub mod Exactly
 pub mod Readings
 pub mod RoundTrip
-pub mod Through
 pub mod Writings

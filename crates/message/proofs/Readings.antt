@@ -39,7 +39,7 @@ narrow l at w v e = subst (λ n. n < 2 ^ w) (sym e) (field_bound l at w)
 
 -- a signed local holds bits
 pub meant : (l : List ℕ) (at w v : ℕ) (z : ℤ) → mag z < 2 ^ 31 → z ≡ signed_of w v → v ≡ field_of l at w → to_z w32 (of_z w32 z) ≡ signed_of w (field_of l at w)
-meant l at w v z h e f = to_z-of_z (sfits_of h) ∙ e ∙ ap (signed_of w) f
+meant l at w v z h e f = to_z-of_z {w = w32} (sfits_of h) ∙ e ∙ ap (signed_of w) f
 
 -- ---- the sub-message
 

@@ -86,7 +86,7 @@ module _ (a b c d : List (ℕ × ℕ)) where
 
 -- a signed field is passed as bits
 pub of-bits : (w v : ℕ) (z : ℤ) → mag z < 2 ^ 31 → v ≡ unsigned_of w (to_z w32 (of_z w32 z)) → v ≡ unsigned_of w z
-of-bits w v z h e = e ∙ ap (unsigned_of w) (to_z-of_z (sfits_of h))
+of-bits w v z h e = e ∙ ap (unsigned_of w) (to_z-of_z {w = w32} (sfits_of h))
 
 -- ---- the state as four numbers
 
