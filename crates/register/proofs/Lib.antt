@@ -1,4 +1,3 @@
-pub mod Data
 pub mod Settling
 pub mod Passing
 pub mod Owning

@@ -1,0 +1,19 @@
+use Prim.Native.Nat.{◌-◌, ◌≤◌}
+use native.Mathlib.Omega.{arith}
+use lib.ListN.{length, take}
+use Rattle.announcing.specs.Announce.{unused}
+use Rattle.announcing.specs.Next.{Next, kind_time}
+use Rattle.announcing.proofs.Ends.{each-inside}
+use Rattle.announcing.proofs.Finding.{rows_none, rows_more, rows_all}
+use Rattle.announcing.proofs.times.next_time.Goals as goal
+
+pub next_of-requires : goal.next_of-requires
+next_of-requires c =
+    let s = c.requires in
+    (each-inside unused c.args.t1 s.0 c.loop-i.i (omega arith), s.1)
+
+pub loop-i-preserved : goal.loop-i-preserved
+loop-i-preserved c =
+    let a = c.args in
+    let l = c.loop-i in
+    (omega arith, rows_more a.marks a.t1 unused a.d l.i _ _ _ (omega arith) l.invariant.1 c.next_of.ensures c.sooner-t.ensures)
