@@ -10,11 +10,11 @@ use native.Mathlib.Omega.{arith}
 use borrow.Author.Tests.{lt-ltb, le-ltb, ltb-true}
 use lib.Dec.{T}
 use lib.IntN.{ℤ, pos, negsuc, ◌-ℤ◌, nat_abs}
-use lib.Pow.{pow_mono, pow_pos, shl_exact}
+use lib.Pow.{pow_mono, shl_exact}
 use lib.Signed.{mag, lt_z, non_neg, pos-nat_abs}
-use mir.Facts.{Fits-nat_abs, to_z-of_z, to_z_pos}
+use mir.Facts.{to_z-of_z, to_z_pos}
 use mir.Syntax.{w32}
-use mir.Val.{Fits, SFits, to_z, of_z}
+use mir.Val.{SFits, to_z, of_z}
 use Rattle.laws.proofs.Signs.{under, plain-nonneg}
 use Rattle.message.specs.Signs.{signed_of, unsigned_of}
 
@@ -87,9 +87,6 @@ signed-fits w v h l = go (dec_lt v (2 ^ (w - 1)))
 shifted : (w : ℕ) → w < 32 → 1 * 2 ^ w % 2 ^ 32 ≡ 2 ^ w
 shifted w h = shl_exact 1 w 32 (omega arith) (omega arith) ∙ one-mul (2 ^ w)
 
-pub full-some : (w : ℕ) → w < 32 → 1 ≤ 1 * 2 ^ w % 2 ^ 32
-full-some w h = rw (shifted w h) (pow_pos w)
-
 -- ---- what `signed` computes
 
 -- -1 - n
@@ -102,9 +99,6 @@ module _ (w v : ℕ) (here : (1 ≤ w) × (w < 32) × (v < 2 ^ w)) where
 
   pub low-is : v < 1 * 2 ^ (w - 1) % 2 ^ 32 → to_z w32 v ≡ signed_of w v
   low-is l = to_z_pos w32 low_fits.sfits ∙ sym (signed_low w v (omega (arith, l, half_is)))
-
-  pub high_le : v ≤ 1 * 2 ^ w % 2 ^ 32 - 1
-  high_le = omega (arith, here.2, shifted w here.1)
 
   pub high_fits : SFits w32 (pos (1 * 2 ^ w % 2 ^ 32 - 1 - v))
   high_fits = record { sfits = omega (arith, shifted w here.1, pow-31 w here.1) }
@@ -145,18 +139,12 @@ module _ (x : ℤ) (f : SFits w32 x) where
     neg-back : to_z w32 (of_z w32 (to_z w32 (2 ^ 32 - 1) -ℤ to_z w32 (of_z w32 x))) ≡ pos (mag x)
     neg-back = to_z-of_z neg-result ∙ neg_is
 
-    pub neg-fits : T (non_neg (to_z w32 (of_z w32 (to_z w32 (2 ^ 32 - 1) -ℤ to_z w32 (of_z w32 x))))) × Fits w32 (nat_abs (to_z w32 (of_z w32 (to_z w32 (2 ^ 32 - 1) -ℤ to_z w32 (of_z w32 x)))))
-    neg-fits = rw neg-back (tt, record { fits = omega (arith, f.sfits) })
-
     pub neg-read : negsuc (nat_abs (to_z w32 (of_z w32 (to_z w32 (2 ^ 32 - 1) -ℤ to_z w32 (of_z w32 x))))) ≡ x
     neg-read = ap (λ (z : ℤ). negsuc (nat_abs z)) neg-back ∙ negsuc-mag x below
 
   module _ (e : lt_z (to_z w32 (of_z w32 x)) (pos 0) ≡ false) where
     some : T (non_neg (to_z w32 (of_z w32 x)))
     some = plain-nonneg (to_z w32 (of_z w32 x)) e
-
-    pub pos-fits : T (non_neg (to_z w32 (of_z w32 x))) × Fits w32 (nat_abs (to_z w32 (of_z w32 x)))
-    pos-fits = (some, rw (to_z-of_z f) (Fits-nat_abs {w = w32} {z = x} tt f))
 
     pub pos-read : pos (nat_abs (to_z w32 (of_z w32 x))) ≡ x
     pos-read = pos-nat_abs (to_z w32 (of_z w32 x)) some ∙ to_z-of_z f
@@ -165,9 +153,6 @@ module _ (w n : ℕ) (here : (1 ≤ w) × (w < 32)) where
   module _ (l : n < 1 * 2 ^ (w - 1) % 2 ^ 32) where
     inside : n < 2 ^ (w - 1)
     inside = omega (arith, l, shifted (w - 1) (omega (arith, here.1)))
-
-    pub in-le : n ≤ 1 * 2 ^ w % 2 ^ 32 - 1
-    in-le = omega (arith, inside, twice w here.0, shifted w here.1)
 
     pub neg-in-is : 1 * 2 ^ w % 2 ^ 32 - 1 - n ≡ unsigned_of w (negsuc n)
     neg-in-is = ap (λ (p : ℕ). p - 1 - n) (shifted w here.1) ∙ sym (neg-in w n inside)

@@ -124,14 +124,6 @@ module _ (c : Clock) where
 -- ---- a message by its id
 
 module _ (id v : ℕ) where
-  pub state-increasing : id ≡ 3 → Increasing (incremental_from v) ≡ state_from id v
-  unfolding state_from
-  state-increasing e = simp (eq-eqb id 3 e)
-
-  pub state-organised : (id ≡ 3 → ⊥) → Organised (organised_from v) ≡ state_from id v
-  unfolding state_from
-  state-organised n = simp (ne_eqb id 3 n)
-
   pub state-stands : StandsIn v (state_from id v)
   unfolding state_from
   state-stands = go (eqb id 3)

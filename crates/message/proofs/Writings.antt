@@ -3,16 +3,10 @@
 use mathlib.Core.Path.{◌≡◌, refl, sym, ap, ap₂, ◌∙◌}
 use mathlib.Core.Bool.{Bool, true, false}
 use mathlib.Core.List.{List, [], ◌∷◌, ◌++◌, append-nil, append_assoc}
-use Prim.Native.Nat.{ℕ, ◌+◌, ◌*◌, ◌^◌, ◌≤◌, ◌<◌}
+use Prim.Native.Nat.{ℕ, ◌+◌, ◌*◌, ◌≤◌, ◌<◌}
 use native.Mathlib.Omega.{arith}
 use borrow.Author.Tests.{le-leb, lt-leb, lt-ltb}
-use borrow.Author.Rules.{sfits_of}
-use mir.Syntax.{w32}
-use mir.Val.{to_z, of_z}
-use mir.Facts.{to_z-of_z}
 use lib.Dec.{leb, ltb, leb-suc-suc}
-use lib.IntN.{ℤ}
-use lib.Signed.{mag}
 use lib.ListN.{length, get_or}
 use Rattle.laws.specs.Tests.{both, pick}
 use Rattle.laws.specs.Lists.{over}
@@ -26,7 +20,6 @@ use Rattle.bits.specs.Row.{laid, width_of, all_fit, lay_over, four_row, joined_f
 use Rattle.bits.proofs.Rows.{laid-append, width-append, fit_append, fit-both, lay-next, lay-whole, four-fits, four-bits}
 use Rattle.bits.specs.declared.reader.Four.{Four}
 use Rattle.message.specs.State.{time_out_of, sub_row, organised_row}
-use Rattle.message.specs.Signs.{unsigned_of}
 use Rattle.message.specs.Message.{report_row, base_row, row_of, known, write_answer}
 use Rattle.message.specs.Sheet.{clock_value, value_of, organised_four, incremental_four, report_rows, base_rows, sheet_of, EachFits, report_fields, base_fields, head_fields, state_fields, fields_in}
 use Rattle.message.specs.declared.state.Clock.{Clock}
@@ -83,10 +76,6 @@ module _ (a b c d : List (ℕ × ℕ)) where
       let two = width-append a b in
       let three = width-append (a ++ b) c ∙ ap (◌+ width_of c) two in
       lay-more (a ++ b ++ c) d l three h (lay-more (a ++ b) c l two (omega arith) (lay-more a b l refl (omega arith) e f) g) k
-
--- a signed field is passed as bits
-pub of-bits : (w v : ℕ) (z : ℤ) → mag z < 2 ^ 31 → v ≡ unsigned_of w (to_z w32 (of_z w32 z)) → v ≡ unsigned_of w z
-of-bits w v z h e = e ∙ ap (unsigned_of w) (to_z-of_z {w = w32} (sfits_of h))
 
 -- ---- the state as four numbers
 
