@@ -34,6 +34,8 @@ pub write-good : (p : List ℕ) (m : ℕ) → 1 ≤ length p → length p ≤ pa
 unfolding write_answer
 write-good p m h k r = simp (between-yes 1 payload_bytes (length p) h k, le-leb most_packet m r)
 
+pub ruleset writing_steps = (write_low, write-high, write-room, write-good)
+
 -- ---- unstuffed bits
 
 pub count-odd : (f : List ℕ) → (length f % 8 ≡ 0 → ⊥) → whole_bytes f ≡ false

@@ -123,7 +123,5 @@ module _ (raw : List ℕ) (n : ℕ) (long : length raw ≡ n + 6) (bytes : (i : 
       sym (bytes_back (take 4 raw) [] (take-bytes 4 raw (all-bytes raw bytes))) ∙ ap₂ (λ (k : ℕ) (t : List ℕ). bytes_of k (t ++ [])) four (e ∙ sym (sent-zeros 4)) ∙ zeros-back
 
   -- what copying the payload comes to
-  pub copied : (out : List ℕ) {out' : List ℕ} {m : ℕ} → m ≡ n → out' ≡ take (length (take m (drop 4 raw))) (take m (drop 4 raw)) ++ drop (length (take m (drop 4 raw))) out
-      → out' ≡ over (bytes_of n (sent_bits (drop 4 raw))) out
-  unfolding over
-  copied out em e = e ∙ rw (em, payload-out, take_all (length (take n (drop 4 raw))) (take n (drop 4 raw)) (omega arith)) refl
+  pub copied : (out : List ℕ) {out' : List ℕ} {m : ℕ} → m ≡ n → out' ≡ over (take m (drop 4 raw)) out → out' ≡ over (bytes_of n (sent_bits (drop 4 raw))) out
+  copied out em e = e ∙ rw (em, payload-out) refl

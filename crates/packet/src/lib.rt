@@ -31,6 +31,7 @@ pub enum Unpacked {
 }
 
 // The packet of a payload, one bit to a byte, in the first places of out: 11, 12.
+#[tactic(auto, using(crate::proofs::Answers::writing_steps), unfolding(crate::specs::Packet::write_out))]
 pub fn write(payload: &[u8], out: &mut [u8]) -> Packed
     ensures { Writes payload.now out.old result out.new }
 {

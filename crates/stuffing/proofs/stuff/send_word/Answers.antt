@@ -1,0 +1,16 @@
+use Rattle.std.proofs.Common.{arith}
+use Rattle.stuffing.proofs.Sending.{done-few, leads}
+use Rattle.stuffing.proofs.stuff.send_word.Goals as goal
+
+pub overflow_add-result-2 : goal.overflow_add-result-2
+overflow_add-result-2 c = omega (arith, done-few 28 c.args.v (omega arith) c.requires.1 c.requires.2 c.stuff_word-x.ensures)
+
+pub overflow_add-result-3 : goal.overflow_add-result-3
+overflow_add-result-3 c = omega (arith, done-few 28 c.args.v (omega arith) c.requires.1 c.requires.2 c.stuff_word-x.ensures)
+
+pub overflow_shr-result : goal.overflow_shr-result
+overflow_shr-result c = omega (arith, done-few 28 c.args.v (omega arith) c.requires.1 c.requires.2 c.stuff_word-x.ensures)
+
+pub returns : goal.returns
+returns c =
+    leads 28 c.args.v (omega arith) c.requires.1 c.requires.2 c.stuff_word-x.ensures c.put_five.ensures
