@@ -1,0 +1,21 @@
+use mathlib.Core.Path.{refl}
+use Rattle.message.specs.Message.{write_out}
+use Rattle.board.proofs.Answers.{said-room, said-short, refused, handed}
+use borrow.Author.Rules.{rules}
+use Rattle.board.proofs.messages.qs_message_write.Goals as goal
+
+pub returns-then-message-lt-MESSAGE : goal.returns-then-message-lt-MESSAGE
+unfolding write_out
+returns-then-message-lt-MESSAGE c = refused _ _ _ (said-room _ _ c.if-message-lt-MESSAGE.true) c.number.ensures refl
+
+pub returns-then-fields-lt-LIST_PLACES : goal.returns-then-fields-lt-LIST_PLACES
+unfolding write_out
+returns-then-fields-lt-LIST_PLACES c = refused _ _ _ (said-short _ _ c.if-message-lt-MESSAGE.false c.if-fields-lt-LIST_PLACES.true) c.number-then-fields-lt-LIST_PLACES.ensures refl
+
+pub returns-in-Done : goal.returns-in-Done
+returns-in-Done c =
+    handed _ _ c.if-message-lt-MESSAGE.false c.if-fields-lt-LIST_PLACES.false c.message_in.ensures c.write-answer.ensures c.in-Done.is refl
+
+pub returns-in-Refused : goal.returns-in-Refused
+returns-in-Refused c =
+    handed _ _ c.if-message-lt-MESSAGE.false c.if-fields-lt-LIST_PLACES.false c.message_in.ensures c.write-answer.ensures c.in-Refused.is c.number-in-Refused.ensures
