@@ -1,6 +1,6 @@
 // Runs an event log from standard input, and writes its lines to standard output: `streams::run`. Its test is document 01's example.
 #![tactic(auto)]
 
-fn main() {
-    streams::run();
+fn main(rt: HostRuntime) {
+    streams::run(&rt);
 }

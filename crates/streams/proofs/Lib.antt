@@ -1,10 +1,3 @@
 pub mod Between
-pub mod Data
-pub mod Filling
-pub mod Flushing
 pub mod Keeping
-pub mod Local
-pub mod ProgramCode
-pub mod Stepping
-pub mod Turns
 pub mod Waiting

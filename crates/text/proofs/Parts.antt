@@ -25,11 +25,6 @@ whole rest k e = sym (append-nil (take k rest)) ∙ ap (take k rest ++◌) (sym 
 part-over : (text rest ys : List ℕ) (k : ℕ) → k ≡ length rest → ys ≡ over text (take k rest) → ys ++ drop k rest ≡ over text rest
 part-over text rest ys k e h = ap (ys ++◌) (none_after rest k e) ∙ append-nil ys ∙ h ∙ ap (over text) (whole rest k e)
 
--- a text copied
-pub copied : (xs text out out' : List ℕ) → xs ≡ text → out' ≡ take (length xs) xs ++ drop (length xs) out → out' ≡ over text out
-unfolding over
-copied xs text out out' e h = h ∙ ap (◌++ drop (length xs) out) (whole xs (length xs) refl) ∙ ap (λ (l : List ℕ). l ++ drop (length l) out) e
-
 -- behind one byte
 pub after_one : (a : ℕ) (out text ys : List ℕ) → number_room ≤ length out
     → ys ≡ over text (take (length (set out 0 a) - 1) (drop 1 (set out 0 a)))

@@ -13,6 +13,7 @@ use limits::DIGITS;
 const LAST: usize = DIGITS - 1;
 
 // Copies bytes to the front of a buffer, and says how many.
+#[tactic(auto, unfolding(laws::specs::Lists::over))]
 fn copy(from: &[u8], to: &mut [u8]) -> usize
     requires { length from.now ≤ length to.old }
     ensures { (result ≡ length from.now) × (to.new ≡ over from.now to.old) }
