@@ -1,12 +1,6 @@
 use mathlib.Core.Path.{sym, ◌∙◌}
 use native.Mathlib.Omega.{arith}
 use Rattle.packet.proofs.RoundTrip.{written-few}
-use mathlib.Core.Path.{refl}
-use Rattle.packet.specs.Packet.{written_number, write_out}
-use Rattle.packet.specs.declared.Packed.{Packed}
-use Rattle.board.specs.Face.{written_count}
-use Rattle.board.proofs.Faces.{face}
-use borrow.Author.Rules.{rules}
 use Rattle.board.proofs.qs_packet_write.Goals as goal
 
 pub overflow_cast-count : goal.overflow_cast-count

@@ -1,7 +1,5 @@
 use mathlib.Core.Path.{sym, ◌∙◌}
-use borrow.Author.Rules.{rules}
 use borrow.Author.Tests.{eq-eqb, ne_eqb}
-use Rattle.laws.proofs.Tests.{was-false, was-true}
 use Rattle.register.specs.Register.{less_by}
 use Rattle.register.proofs.less.Goals as goal
 

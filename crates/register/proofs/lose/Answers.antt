@@ -1,7 +1,5 @@
 -- The record is one of the register's, whoever the slot time's holder is.
-use Rattle.std.proofs.Common.{◌<◌, length, arith}
-use Rattle.limits.specs.Limits.{records}
-use Rattle.book.specs.Book.{record_at}
+use Rattle.std.proofs.Common.{arith}
 use Rattle.book.proofs.Holders.{inside}
 use Rattle.register.proofs.lose.Goals as goal
 

@@ -1,6 +1,4 @@
 use mathlib.Core.Path.{sym, ◌∙◌}
-use borrow.Author.Rules.{rules}
-use Rattle.laws.proofs.Tests.{was-false, was-true}
 use Rattle.register.specs.Register.{more_by}
 use Rattle.register.proofs.more.Goals as goal
 

@@ -3,7 +3,6 @@ use native.Mathlib.Omega.{arith}
 use Rattle.reporting.specs.declared.Reported.TheVariants.{Done}
 use Rattle.reporting.proofs.Looking.{time-out-most}
 use Rattle.reporting.proofs.Answers.{report-36, report-done, other-now, own-now}
-use borrow.Author.Rules.{rules}
 use Rattle.reporting.proofs.report.Goals as goal
 
 pub returns-then-book-at-ne-OWN : goal.returns-then-book-at-ne-OWN

@@ -2,7 +2,6 @@ use mathlib.Core.Path.{refl}
 use native.Mathlib.Omega.{arith}
 use Rattle.reporting.proofs.Offsets.{offset-most}
 use Rattle.reporting.proofs.Answers.{say-offset, say-time, say-slot, say-stations}
-use borrow.Author.Rules.{rules}
 use Rattle.reporting.proofs.sub_message.Goals as goal
 
 pub overflow_cast-result : goal.overflow_cast-result

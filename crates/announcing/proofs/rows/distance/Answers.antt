@@ -1,5 +1,4 @@
 use Rattle.announcing.proofs.Making.{distance-near, distance-far}
-use borrow.Author.Rules.{rules}
 use Rattle.announcing.proofs.rows.distance.Goals as goal
 
 pub returns-then-i-le4 : goal.returns-then-i-le4

@@ -1,5 +1,4 @@
 use Rattle.announcing.proofs.Making.{kept-is, left_is}
-use borrow.Author.Rules.{rules}
 use Rattle.announcing.proofs.rows.incremental.Goals as goal
 
 pub returns-then-i-eq1 : goal.returns-then-i-eq1

@@ -2,7 +2,6 @@ use mathlib.Core.Path.{ap}
 use mathlib.Core.List.{[], ◌∷◌}
 use Rattle.announcing.specs.declared.rows.Row.{Row}
 use Rattle.announcing.specs.Announce.{filled}
-use borrow.Author.Rules.{rules}
 use Rattle.announcing.proofs.rows.no_rows.Goals as goal
 
 pub returns : goal.returns

@@ -1,5 +1,4 @@
 use Rattle.announcing.proofs.Making.{organised-is}
-use borrow.Author.Rules.{rules}
 use Rattle.announcing.proofs.rows.organised.Goals as goal
 
 pub returns : goal.returns

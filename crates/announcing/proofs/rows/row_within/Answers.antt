@@ -1,7 +1,5 @@
 use mathlib.Core.Path.{sym, ◌∙◌}
-use native.Mathlib.Omega.{arith}
-use Rattle.announcing.proofs.Ends.{full, end_none, end-beyond, end-decides, steps-small}
-use borrow.Author.Rules.{rules}
+use Rattle.announcing.proofs.Ends.{end_none, end-beyond, end-decides}
 use Rattle.announcing.proofs.rows.row_within.Goals as goal
 
 pub returns-then-is_empty : goal.returns-then-is_empty

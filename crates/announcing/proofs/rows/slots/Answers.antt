@@ -1,5 +1,4 @@
 use Rattle.announcing.proofs.Making.{slots-none, slots-near, slots-far}
-use borrow.Author.Rules.{rules}
 use Rattle.announcing.proofs.rows.slots.Goals as goal
 
 pub returns-then-i-eq0 : goal.returns-then-i-eq0

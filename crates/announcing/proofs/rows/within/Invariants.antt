@@ -1,10 +1,6 @@
-use mathlib.Core.Path.{◌≡◌, refl, sym, ◌∙◌}
-use Rattle.announcing.specs.Announce.{unused}
-use Rattle.laws.proofs.Tests.{was-false, was-true}
-use Rattle.announcing.proofs.Ends.{rest-decides, one-beyond, all-inside}
+use mathlib.Core.Path.{◌≡◌}
 use mathlib.Core.Path.{◌≡◌}
 use Prim.Native.Nat.{◌-◌, ◌≤◌}
-use native.Mathlib.Omega.{arith}
 use lib.ListN.{length, drop}
 use Rattle.announcing.specs.Rows.{in_book}
 use Rattle.announcing.proofs.rows.within.Given as goal

@@ -1,9 +1,7 @@
 use mathlib.Core.Path.{sym, ◌∙◌}
-use Prim.Native.Nat.{◌-◌, ◌≤◌}
 use native.Mathlib.Omega.{arith}
-use Rattle.announcing.specs.Next.{Next}
 use Rattle.announcing.proofs.Ends.{full, runs-inside}
-use Rattle.announcing.proofs.Finding.{frames_time, frames-none, frames-more, frames-all, row-none}
+use Rattle.announcing.proofs.Finding.{frames-none, frames-more, frames-all, row-none}
 use Rattle.announcing.proofs.times.next_in.Goals as goal
 
 pub returns-then-is_empty : goal.returns-then-is_empty

@@ -2,7 +2,6 @@ use mathlib.Core.Path.{◌≡◌, refl, sym}
 use mathlib.Core.Bool.{Bool, true, false, not, beq}
 use Rattle.laws.specs.Tests.{pick}
 use Rattle.announcing.proofs.Finding.{kind-none, kind-has}
-use borrow.Author.Rules.{rules}
 use Rattle.announcing.proofs.times.next_of.Goals as goal
 
 -- the code's test of two kinds

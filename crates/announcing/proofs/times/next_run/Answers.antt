@@ -1,7 +1,6 @@
 use Rattle.announcing.proofs.Finding.{begins-inside}
 use native.Mathlib.Omega.{arith}
 use Rattle.announcing.proofs.Finding.{next-first, next_here, next-begins, next-over}
-use borrow.Author.Rules.{rules}
 use Rattle.announcing.proofs.times.next_run.Goals as goal
 
 pub returns-then-d-a : goal.returns-then-d-a

@@ -1,10 +1,7 @@
-use Prim.Native.Nat.{◌-◌, ◌≤◌}
 use native.Mathlib.Omega.{arith}
-use lib.ListN.{length, take}
 use Rattle.announcing.specs.Announce.{unused}
-use Rattle.announcing.specs.Next.{Next, kind_time}
 use Rattle.announcing.proofs.Ends.{each-inside}
-use Rattle.announcing.proofs.Finding.{rows_none, rows_more, rows_all}
+use Rattle.announcing.proofs.Finding.{rows_more}
 use Rattle.announcing.proofs.times.next_time.Goals as goal
 
 pub next_of-requires : goal.next_of-requires

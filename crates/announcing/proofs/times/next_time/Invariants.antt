@@ -1,10 +1,6 @@
 use Prim.Native.Nat.{◌-◌, ◌≤◌}
-use native.Mathlib.Omega.{arith}
 use lib.ListN.{length, take}
-use Rattle.announcing.specs.Announce.{unused}
 use Rattle.announcing.specs.Next.{Next, kind_time}
-use Rattle.announcing.proofs.Ends.{each-inside}
-use Rattle.announcing.proofs.Finding.{rows_none, rows_more, rows_all}
 use Rattle.announcing.proofs.times.next_time.Given as goal
 
 -- t is the next time of the rows that were asked

@@ -2,7 +2,6 @@ use mathlib.Core.Path.{refl, sym, subst}
 use Rattle.message.specs.Sheet.{Heads}
 use Rattle.message.proofs.Readings.{read-good}
 use Rattle.board.proofs.Answers.{list-room, list_read, listed}
-use borrow.Author.Rules.{rules}
 use Rattle.board.proofs.messages.qs_message_read.Goals as goal
 
 pub returns-then-fields-lt-LIST_PLACES : goal.returns-then-fields-lt-LIST_PLACES

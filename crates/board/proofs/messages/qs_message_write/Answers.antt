@@ -1,7 +1,6 @@
 use mathlib.Core.Path.{refl}
 use Rattle.message.specs.Message.{write_out}
 use Rattle.board.proofs.Answers.{said-room, said-short, refused, handed}
-use borrow.Author.Rules.{rules}
 use Rattle.board.proofs.messages.qs_message_write.Goals as goal
 
 pub returns-then-message-lt-MESSAGE : goal.returns-then-message-lt-MESSAGE

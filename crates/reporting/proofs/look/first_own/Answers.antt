@@ -1,7 +1,5 @@
-use mathlib.Core.Path.{◌≡◌, sym, ◌∙◌}
-use Prim.Native.Nat.{◌-◌, ◌≤◌}
-use Rattle.reporting.specs.Report.{first_own}
-use Rattle.reporting.proofs.Looking.{own_from, own-start, own-end, own-here, own-later}
+use mathlib.Core.Path.{sym, ◌∙◌}
+use Rattle.reporting.proofs.Looking.{own-start, own-end, own-here, own-later}
 use borrow.Author.Rules.{rules}
 use Rattle.reporting.proofs.look.first_own.Goals as goal
 

@@ -1,8 +1,7 @@
-use mathlib.Core.Path.{◌≡◌, sym, ◌∙◌}
+use mathlib.Core.Path.{◌≡◌}
 use Prim.Native.Nat.{◌-◌, ◌≤◌}
 use Rattle.reporting.specs.Report.{first_own}
-use Rattle.reporting.proofs.Looking.{own_from, own-start, own-end, own-here, own-later}
-use borrow.Author.Rules.{rules}
+use Rattle.reporting.proofs.Looking.{own_from}
 use Rattle.reporting.proofs.look.first_own.Given as goal
 
 -- what is left still gives the whole

@@ -1,9 +1,6 @@
 use mathlib.Core.Path.{◌≡◌, sym, ap, ◌∙◌}
-use Prim.Native.Nat.{◌-◌, ◌≤◌}
 use native.Mathlib.Omega.{arith}
-use Rattle.laws.proofs.Tests.{was-false, was-true}
 use Rattle.limits.specs.Limits.{most_time_out}
-use Rattle.reporting.specs.Report.{time_out}
 use Rattle.reporting.proofs.Looking.{frames_from, frames-start, frames-end, frame-own, frame-other}
 use borrow.Author.Rules.{rules}
 use Rattle.reporting.proofs.look.frames_own.Goals as goal

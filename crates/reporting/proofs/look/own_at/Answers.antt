@@ -4,7 +4,6 @@ use lib.Dec.{eqb}
 use lib.ListN.{get_or}
 use Rattle.book.specs.Book.{ours}
 use Rattle.reporting.specs.Report.{own_at}
-use borrow.Author.Rules.{rules}
 use Rattle.reporting.proofs.look.own_at.Goals as goal
 
 pub returns : goal.returns
