@@ -3,7 +3,7 @@
 use mathlib.Core.Path.{◌≡◌, refl, sym, ap, subst, ◌∙◌}
 use mathlib.Core.Bool.{Bool, true, false}
 use mathlib.Core.List.{List}
-use Prim.Native.Nat.{ℕ, suc, ◌+◌, ◌-◌, ◌<◌}
+use Prim.Native.Nat.{ℕ, suc, ◌+◌, ◌<◌}
 use native.Mathlib.Omega.{arith}
 use borrow.Author.Tests.{ltb-true, ltb-false}
 use lib.Dec.{ltb}
@@ -69,10 +69,6 @@ run_ends w {ys} {bs} {t} {zs} {cs} r done many =
 -- both records that follow, as the code has it: us is the register once the loser has followed, vs once the winner has
 both-is : (zs us vs : List Station) (t : Turn) → us ≡ lost_in zs t → vs ≡ won_in us t → vs ≡ both-followed zs t
 both-is zs us vs t l w = w ∙ ap (λ (r : List Station). won_in r t) l
-
--- a turn comes nearer to the end
-pub nearer-end : {p : ℕ → Bool} (s t : Turn) → ltb s.at slot_times ≡ true → Next p (s.at + 1) t.at → slot_times - t.at < slot_times - s.at
-nearer-end s t e n = omega (arith, ltb-true s.at slot_times e, n.ahead)
 
 -- ---- what is freed
 
