@@ -4,7 +4,6 @@ pub mod Finding
 pub mod Entering
 pub mod Noting
 pub mod Turning
-pub mod Data
 pub mod Runs
 pub mod Joined
 pub mod Hears

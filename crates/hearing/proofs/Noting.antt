@@ -1,4 +1,4 @@
--- What is noted of a report: that it is fit to be booked, or why it is not; and the reply.
+-- What is noted of a report: that it is fit to be booked, or why it is not.
 -- Assumes nothing.
 use mathlib.Core.Path.{◌≡◌, refl, sym, ap, subst, ◌∙◌}
 use mathlib.Core.Bool.{true, false}
@@ -10,19 +10,17 @@ use lib.ListN.{length}
 use Rattle.limits.specs.Limits.{slot_times, records}
 use Rattle.numbers.specs.declared.Refusal.{Refusal}
 use Rattle.numbers.specs.declared.Refusal.TheVariants.{NoRecord, BeyondBook}
-use Rattle.book.specs.declared.Watch.{Watch}
 use Rattle.announcing.specs.declared.rows.Row.{Row}
 use Rattle.announcing.specs.Rows.{marks_time, frees_time, in_book}
 use Rattle.announcing.specs.Next.{Next}
 use Rattle.announcing.specs.Announce.{announces, most_rows, filled}
 use Rattle.announcing.proofs.Filling.{few-announced, in-book-filled, marks-filled, frees-filled}
 use Rattle.announcing.proofs.Skipping.{next-none}
-use Rattle.register.specs.declared.Answer.TheVariants.{Heard, Refused}
 use Rattle.hearing.specs.declared.Hearing.{Hearing}
 use Rattle.hearing.specs.declared.Fit.{Fit}
 use Rattle.hearing.specs.declared.Fit.TheVariants.{Yes, Refused as NotFit}
 use Rattle.hearing.specs.declared.Booking.{Booking}
-use Rattle.hearing.specs.Booking.{fit_of, fits, at_of, rows_of, Noted, reply_of}
+use Rattle.hearing.specs.Booking.{fit_of, fits, at_of, rows_of, Noted}
 
 -- ---- a report that cannot be booked
 
@@ -97,12 +95,3 @@ module _ (q : Hearing) (k : ℕ) where
   fit-noted l rows e within frees marks n m =
       noted-as Yes (booking q Yes k rows frees marks) (fit-yes l (inside_is rows e ∙ within))
       (record { watch = refl; telling = refl; is-fit = refl; place = refl; announced = e; inside = within; frees = n; marks = m })
-
--- ---- the reply
-
-module _ (b : Booking) (n : ℕ) (w w' : Watch) where
-  pub reply-heard : b.fit ≡ Yes → w ≡ w' → record { watch = w; answer = Heard (record { source = b.telling.source; marks = n }) } ≡ reply_of b w' n
-  reply-heard e f = rw e (λ i. record { watch = f i; answer = Heard (record { source = b.telling.source; marks = n }) })
-
-  pub reply-refused : (r : Refusal) → b.fit ≡ NotFit r → w ≡ w' → record { watch = w; answer = Refused r } ≡ reply_of b w' n
-  reply-refused r e f = rw e (λ i. record { watch = f i; answer = Refused r })

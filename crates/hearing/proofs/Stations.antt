@@ -1,5 +1,4 @@
--- The station of a message: what is told of it, its source, and its record: where a number stands first in a list, and that it is the
--- lowest place.
+-- The station of a message: its source, and its record: where a number stands first in a list, and that it is the lowest place.
 -- Assumes nothing.
 use mathlib.Core.Path.{◌≡◌, sym, ◌∙◌}
 use mathlib.Core.Bool.{Bool, false}
@@ -8,30 +7,11 @@ use Prim.Native.Nat.{ℕ, zero, suc, ◌≤◌, ◌<◌}
 use native.Mathlib.Decide.{ℕ_discrete}
 use native.Mathlib.Omega.{arith}
 use borrow.Author.Tests.{eq-eqb, ne_eqb, lt-ltb, le-ltb}
-use mir.Syntax.{w32}
-use mir.Val.{to_z, of_z}
-use lib.IntN.{ℤ}
-use lib.Signed.{mag}
 use lib.ListN.{length, get_or}
 use Rattle.laws.proofs.Tests.{both-no, both_yes}
-use Rattle.laws.proofs.Signs.{back}
-use Rattle.message.specs.declared.state.State.{State}
 use Rattle.ship.specs.Ship.{fair_source}
-use Rattle.hearing.specs.declared.Telling.{Telling}
 use Rattle.hearing.specs.Station.{fair_other, index_of, record_of}
 use Rattle.hearing.specs.Promises.{First}
-
--- ---- what is told
-
--- a telling by its parts
-abbrev telling : ℕ → ℕ → Bool → ℤ → ℤ → State → Telling
-telling source repeat base lat lon state =
-    record { source = source; repeat = repeat; base = base; latitude = lat; longitude = lon; state = state }
-
--- a telling whose position is read back from its bits
-pub told_back : (source repeat : ℕ) (base : Bool) (lat lon : ℤ) (state : State) → mag lat < 2147483648 → mag lon < 2147483648
-    → telling source repeat base (to_z w32 (of_z w32 lat)) (to_z w32 (of_z w32 lon)) state ≡ telling source repeat base lat lon state
-told_back source repeat base lat lon state p q = λ j. telling source repeat base (back lat p j) (back lon q j) state
 
 -- ---- the source
 
