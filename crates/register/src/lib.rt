@@ -1,6 +1,6 @@
 // The lent register and the state that the calls go on: who has lost a slot time and who has got it has its tally follow, in its own record. Promises: `lose` and
 // `win` change one record each, and that one as specs/Register.antt says; specs/State.antt has the state, and what becomes of it where something is done to
-// the book. Both functions are thin and proved by hand, as instances of `walks`.
+// the book.
 #![tactic(auto)]
 
 ghost use Rattle.std.specs.Prelude.{◌≡◌, length};
