@@ -9,16 +9,16 @@ pub returns-then-n-eq0 : goal.returns-then-n-eq0
 unfolding drawn
 returns-then-n-eq0 c =
     let l = c.list_candidates-n in
-    chosen_none _ _ _ _ (omega (arith, l.ensures.0, c.cs-2-1.given)) l.ensures.1 _ _ c.if-n-eq0.true
+    chosen_none _ _ _ _ (omega (arith, l.ensures.0)) l.ensures.1 _ _ c.if-n-eq0.true
 
 pub returns-then-d-n : goal.returns-then-d-n
 unfolding drawn
 returns-then-d-n c =
     let l = c.list_candidates-n in
-    chosen_at _ _ _ _ (omega (arith, l.ensures.0, c.cs-2-1.given)) l.ensures.1 _ _ c.if-n-eq0.false c.if-d-n.true
+    chosen_at _ _ _ _ (omega (arith, l.ensures.0)) l.ensures.1 _ _ c.if-n-eq0.false c.if-d-n.true
 
 pub returns : goal.returns
 unfolding drawn
 returns c =
     let l = c.list_candidates-n in
-    chosen-back _ _ _ _ (omega (arith, l.ensures.0, c.cs-2-1.given)) l.ensures.1 _ _ c.if-n-eq0.false c.if-d-n.false
+    chosen-back _ _ _ _ (omega (arith, l.ensures.0)) l.ensures.1 _ _ c.if-n-eq0.false c.if-d-n.false
