@@ -1,8 +1,7 @@
 -- One mark more at most.
-use Rattle.std.proofs.Common.{arith, not}
-use Rattle.candidates.specs.Slot.{is_none}
+use Rattle.std.proofs.Common.{arith}
 use Rattle.choosing.proofs.Drawing.{one-most}
 use Rattle.choosing.proofs.own.own_one.Goals as goal
 
 pub overflow_add-result-2 : goal.overflow_add-result-2
-overflow_add-result-2 c = omega (arith, c.requires.few, c.somebody.ensures, one-most (not (is_none c.put-handing.result.old)))
+overflow_add-result-2 c = omega (arith, c.requires.few, c.somebody.ensures, one-most)
