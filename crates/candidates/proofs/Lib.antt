@@ -7,8 +7,6 @@ pub mod Cutting
 pub mod Slots
 pub mod Looking
 pub mod Listing
-pub mod Data
-pub mod Loops
 pub mod Levels
 pub mod Sameness
 pub mod Promised

@@ -1,11 +1,9 @@
 pub mod Meaning
 pub mod Asking
 pub mod Drawing
-pub mod Data
 pub mod Loops
 pub mod Promised
 pub mod Frames
-pub mod Owning
 pub mod Choosing
 pub mod Chosen
 pub mod Draws
