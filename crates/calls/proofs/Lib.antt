@@ -1,4 +1,3 @@
-pub mod Data
 pub mod Running
 pub mod Covered
 pub mod Joining

@@ -27,7 +27,7 @@ use Rattle.calls.specs.declared.What.{What}
 use Rattle.calls.specs.declared.What.TheVariants.{Nothing, Hear, Plan as ToPlan, Own, Choose, Report, New, Sum}
 use Rattle.calls.specs.declared.told.Task.{Task}
 use Rattle.calls.specs.declared.told.Task.TheVariants as task
-use Rattle.calls.specs.Calls.{pass_tests, pass, planned, plan_tests, plan, owning, own_tests, own, report_tests, reports, report, begin, sum, done, called}
+use Rattle.calls.specs.Calls.{pass_tests, pass, planned, plan, owning, own, reports, report, begin, sum, done, called}
 use Rattle.calls.specs.Told.{task_of}
 use Rattle.calls.specs.Stages.{done_task}
 use Rattle.calls.specs.Promises.{order_of, tests_of, Refusing, RefusingBy, RefusesExactly, OneAnswer, PassesApart}

@@ -1,33 +1,27 @@
--- The two loops of a call over the lent register, as the theorems of `walks` take them: slots that pass, and the sums of the records.
+-- The two loops of a call over the lent register: slots that pass, and the sums of the records.
 -- Assumes nothing.
 use mathlib.Core.Path.{◌≡◌, sym, ap, ◌∙◌}
 use mathlib.Core.List.{List, [], ◌∷◌}
-use Prim.Native.Nat.{ℕ, suc, ◌+◌, ◌*◌, ◌%◌, ◌≤◌, ◌<◌, ◌^◌}
+use Prim.Native.Nat.{ℕ, suc, ◌+◌, ◌*◌, ◌%◌, ◌≤◌}
 use native.Mathlib.Omega.{arith}
-use borrow.Author.Tests.{ltb-true, ltb-false}
 use lib.Dec.{ltb}
-use lib.ListN.{length, get_or}
+use lib.ListN.{length}
 use Rattle.laws.specs.Counting.{one, sum}
 use Rattle.laws.proofs.Sums.{one-le}
 use Rattle.laws.proofs.Upto.{upto-none, upto-more}
 use Rattle.limits.specs.Limits.{slot_times, records}
 use Rattle.ship.specs.declared.Station.{Station}
-use Rattle.ship.specs.Ship.{blank}
 use Rattle.walks.specs.Out.{Ends}
 use Rattle.walks.specs.Swept.{swept}
-use Rattle.walks.proofs.Walking as Walking
-use Rattle.walks.proofs.Sweeping as Sweeping
 use Rattle.register.specs.declared.Turn.{Turn}
 use Rattle.register.specs.State.{State, state_of, tallies_in}
-use Rattle.register.specs.Register.{lost_in, won_in, slid_one, slid}
-use Rattle.register.proofs.Data.{TurnD}
+use Rattle.register.specs.Register.{slid_one, slid}
 use Rattle.register.proofs.Settling.{both-followed}
 use Rattle.register.proofs.Passing.{moved_to, slid-is}
 use Rattle.reporting.specs.Report.{heard_stations}
 use Rattle.calls.specs.declared.told.Case.{Case}
 use Rattle.calls.specs.declared.stages.Sums.{Sums}
-use Rattle.calls.specs.Stages.{Sized, started, PassesOne, recased, pass_out, no_sums, SumFits, sum_with, sums_in}
-use Rattle.calls.proofs.Data.{CaseD, SumsD}
+use Rattle.calls.specs.Stages.{started, PassesOne, recased, pass_out, no_sums, sum_with, sums_in}
 
 -- ---- slots that pass
 
@@ -36,27 +30,17 @@ abbrev stands : Case → Turn → List Station → List ℕ → State
 stands c t zs cs = state_of zs cs (moved_to c.watch t.at t.handing.counts)
 
 -- i slots have passed
-record Upto (c : Case) (ys : List Station) (bs : List ℕ) (t : Turn) (zs : List Station) (cs : List ℕ) : Type 0 where
+pub record Upto (c : Case) (ys : List Station) (bs : List ℕ) (t : Turn) (zs : List Station) (cs : List ℕ) : Type 0 where
   pub i : ℕ
   pub rest : t.left + i ≡ c.passes
   pub is : stands c t zs cs ≡ slid (state_of ys bs c.watch) i
 
-abbrev pub of_pass : Walking.Meaning CaseD TurnD CaseD
-of_pass = record {
-  start = started;
-  more = λ t. ltb 0 t.left;
-  NeedStep = λ bs t c. (length bs ≡ slot_times) × (0 < t.left);
-  Steps = λ bs t c r cs. PassesOne bs t r cs;
-  NeedChange = λ ys t. length ys ≡ records;
-  lose = lost_in;
-  win = won_in;
-  end = recased;
-  Need = λ ys bs c. Sized ys bs;
-  Says = λ c ys bs r zs cs. Ends (pass_out c ys bs) r zs cs;
-}
+-- none has passed
+pub begins : (c : Case) (ys : List Station) (bs : List ℕ) → Upto c ys bs (started c) ys bs
+begins c ys bs = record { i = 0; rest = omega arith; is = upto-none (λ x j. slid_one x) (state_of ys bs c.watch) }
 
 -- one slot more
-next : (c : Case) (ys : List Station) (bs : List ℕ) (s : Turn) (zs : List Station) (cs : List ℕ) (t : Turn) (ds : List ℕ) → length zs ≡ records
+pub next : (c : Case) (ys : List Station) (bs : List ℕ) (s : Turn) (zs : List Station) (cs : List ℕ) (t : Turn) (ds : List ℕ) → length zs ≡ records
     → Upto c ys bs s zs cs → PassesOne cs s t ds → Upto c ys bs t (both-followed zs t) ds
 next c ys bs s zs cs t ds many u p =
     let before = stands c s zs cs in
@@ -70,7 +54,7 @@ next c ys bs s zs cs t ds many u p =
           ∙ upto-more (λ x j. slid_one x) (state_of ys bs c.watch) u.i before _ u.is (sym one);
     }
 
-ends : (c : Case) (ys : List Station) (bs : List ℕ) (t : Turn) (zs : List Station) (cs : List ℕ) → Upto c ys bs t zs cs → t.left ≡ 0
+pub ends : (c : Case) (ys : List Station) (bs : List ℕ) (t : Turn) (zs : List Station) (cs : List ℕ) → Upto c ys bs t zs cs → t.left ≡ 0
     → Ends (pass_out c ys bs) (recased c t) zs cs
 ends c ys bs t zs cs u z =
     let all : u.i ≡ c.passes = omega (arith, u.rest, z) in
@@ -81,35 +65,13 @@ ends c ys bs t zs cs u z =
       writes = λ i. (is i).book;
     }
 
-pub pass-enough : Walking.Enough of_pass
-pass-enough = record {
-  I = Upto;
-  left = λ t. t.left;
-  starts = λ c ys bs n. record { i = 0; rest = omega arith; is = upto-none (λ x j. slid_one x) (state_of ys bs c.watch) };
-  for-step = λ c ys bs t zs cs n z u e. (z.book ∙ n.size, ltb-true 0 t.left e);
-  for-lose = λ c ys bs s zs cs t ds n z u e p y. z.reg ∙ n.register;
-  for-win = λ c ys bs s zs cs t ds n z u e p y. y.reg ∙ n.register;
-  turns = λ c ys bs s zs cs t ds n z u e p y. next c ys bs s zs cs t ds (z.reg ∙ n.register) u p;
-  nearer = λ c ys bs s zs cs t ds n z u e p. omega (arith, p.less);
-  ends = λ c ys bs t zs cs n z u e. ends c ys bs t zs cs u (omega (arith, ltb-false 0 t.left e));
-}
-
 -- ---- the sums of the records
 
-abbrev pub of_sums : Sweeping.Meaning CaseD SumsD
-of_sums = record {
-  start = λ c. no_sums;
-  c = λ n r c i. sum_with n r;
-  gives = λ ys c. sums_in ys;
-  Need = λ ys c. length ys ≡ records;
-  NeedC = λ n r c i. SumFits n i;
-}
-
-record Few (n : Sums) (i : ℕ) : Type 0 where
+pub record Few (n : Sums) (i : ℕ) : Type 0 where
   pub few : n.stations ≤ i
   pub small : n.total ≤ 65535 * i
 
-few-more : (n : Sums) (r : Station) (i : ℕ) → Few n i → r.tally < 2 ^ 16 → Few (sum_with n r) (i + 1)
+pub few-more : (n : Sums) (r : Station) (i : ℕ) → Few n i → (sum_with n r).total ≤ n.total + 65535 → Few (sum_with n r) (i + 1)
 unfolding sum_with
 few-more n r i f l = record { few = omega (arith, f.few, one-le (ltb 0 r.tally)); small = omega (arith, f.small, l) }
 
@@ -127,18 +89,9 @@ sums-from (r ∷ reg) n i =
     let b : m.total + sum (tallies_in reg) ≡ n.total + (r.tally + sum (tallies_in reg)) = omega arith in
     sums-from reg m (suc i) ∙ (λ j. record { stations = a j; total = b j })
 
-sums-come : (reg : List Station) → swept (λ (x : Sums) (r : Station) (j : ℕ). sum_with x r) no_sums 0 reg ≡ sums_in reg
+pub sums-come : (reg : List Station) → swept (λ (x : Sums) (r : Station) (j : ℕ). sum_with x r) no_sums 0 reg ≡ sums_in reg
 unfolding sums_in
 sums-come reg =
     let a : 0 + heard_stations (tallies_in reg) ≡ heard_stations (tallies_in reg) = omega arith in
     let b : 0 + sum (tallies_in reg) ≡ sum (tallies_in reg) = omega arith in
     sums-from reg no_sums 0 ∙ (λ j. record { stations = a j; total = b j })
-
-pub sums-enough : Sweeping.Enough of_sums
-sums-enough = record {
-  I = λ ys c n i. Few n i;
-  starts = λ ys c need. record { few = omega arith; small = omega arith };
-  turns = λ ys c n i need f l small. few-more n (get_or ys i blank) i f small;
-  for-c = λ ys c n i need f l. record { place = omega (arith, need, l); few = f.few; small = f.small };
-  comes-to = λ ys c need. sums-come ys;
-}

@@ -1,5 +1,4 @@
 // A call on a register and a book that have their lengths, stage by stage: the slots that pass, then what is left to be done. Promise: as specs/Stages.antt says.
-// Functions that are lent the register are proved by hand, as instances of `walks`.
 ghost use Rattle.std.specs.Prelude.{◌≡◌, true, false, map, ◌+◌, ◌≤◌, ◌<◌, ltb, length};
 ghost use Rattle.laws.specs.Counting.{one};
 ghost use Rattle.limits.specs.Limits.{slot_times, records};
@@ -300,7 +299,7 @@ fn wide(x: u16) -> u32
 
 fn sum_with(n: Sums, s: Station, c: Case, i: usize) -> Sums
     requires { SumFits n i }
-    ensures { result ≡ sum_with n s }
+    ensures { (result ≡ sum_with n s) × (result.total ≤ n.total + 65535) }
 {
     Sums {
         stations: n.stations + heard_bit(s.tally),
