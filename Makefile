@@ -52,7 +52,7 @@ JOURNAL := $(sort $(RUN_LOG) $(LOG_TEXT) $(LOG_MAKING) $(addprefix second/,log_c
 HEADERS := $(wildcard include/*.h second/*.h bench/*.h)
 TESTS := build/test_packet build/test_message build/test_book build/test_choosing build/test_journal
 LOG_PROGRAMS := build/second_slotbook build/logtext build/makelog
-PROGRAMS := build/example build/page $(TESTS) $(addsuffix _sanitized,$(TESTS)) $(LOG_PROGRAMS) build/compare_packet build/compare_message
+PROGRAMS := $(SLOTBOOK) build/example build/page $(TESTS) $(addsuffix _sanitized,$(TESTS)) $(LOG_PROGRAMS) build/compare_packet build/compare_message
 BENCHES := build/bench_packet build/bench_message build/bench_choosing build/makeday build/bench_slotbook $(SLOTBOOK)
 
 # make compare
@@ -83,7 +83,7 @@ bench: tools $(BENCHES)
 	@echo
 	@bench/day "$(WHERE)" "$(SLOTBOOK_RUN) $(SLOTBOOK)" "$(X86_RUN) build/bench_slotbook"
 
-stack: tools $(BOARD)
+stack: tools $(BOARD) $(SLOTBOOK)
 	@tests/stack
 
 tools:
@@ -92,11 +92,25 @@ tools:
 
 programs: $(PROGRAMS)
 
-$(BOARD) $(TESTFACE): target/staticlib/lib%.a: crates.txt $(shell find crates -name '*.rt' -o -name '*.antt')
-	rt staticlib $*
+# What the crates say, without what rt keeps in their out/.
+RATTLE := crates.txt $(shell find crates -name out -prune -o \( -name '*.rt' -o -name '*.antt' \) -print)
 
-$(SLOTBOOK): crates.txt $(shell find crates -name '*.rt' -o -name '*.antt')
-	rt check slotbook
+# A static library and a program stand in the out/ of their crate, which a later rt ci may take away. The C face of the board is exported by crate board_c.
+$(BOARD): $(RATTLE)
+	cd crates/board_c && rt lib
+	@mkdir -p $(@D)
+	cp crates/board_c/out/libboard_c.a $@
+
+$(TESTFACE): $(RATTLE)
+	cd crates/testface && rt lib
+	@mkdir -p $(@D)
+	cp crates/testface/out/libtestface.a $@
+
+# rt run proves and links the program, and runs it once
+$(SLOTBOOK): $(RATTLE)
+	cd crates/slotbook && rt run <stdin >/dev/null
+	@mkdir -p $(@D)
+	cp crates/slotbook/out/slotbook $@
 
 build/example: include/example.c $(HEADERS) $(BOARD)
 	$(X86_CC) $(WARN) $(OPT) $(X86_LINK) -o $@ include/example.c $(BOARD)

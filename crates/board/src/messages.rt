@@ -8,8 +8,7 @@ use message::reading::{Head, head_of};
 use message::{Written, write};
 use numbers::{Refusal, number};
 
-#[unsafe(no_mangle)]
-pub extern "C" fn qs_message_read(message: &[u8], fields: &mut [i32], count: &mut u32) -> u32
+pub fn qs_message_read(message: &[u8], fields: &mut [i32], count: &mut u32) -> u32
     ensures { ReadsMessageC message.now fields.old count.old result fields.new count.new }
 {
     if fields.len() < LIST_PLACES {
@@ -25,8 +24,7 @@ pub extern "C" fn qs_message_read(message: &[u8], fields: &mut [i32], count: &mu
     }
 }
 
-#[unsafe(no_mangle)]
-pub extern "C" fn qs_message_write(fields: &[i32], message: &mut [u8]) -> u32
+pub fn qs_message_write(fields: &[i32], message: &mut [u8]) -> u32
     ensures { WritesMessageC fields.now message.old result message.new }
 {
     if message.len() < MESSAGE {
