@@ -106,6 +106,7 @@ fn own_task(s: Ship) -> Task
 }
 
 // The plan has the window that is asked for, and the time-out is one.
+#[tactic(auto, unfolding(choosing::specs::Choosing::ask_fits))]
 fn can_ask(p: Plan, a: Wanted) -> bool
     ensures { result ≡ ask_fits p a }
 {
@@ -146,6 +147,7 @@ fn task_of(bytes: &[u8], watch: Watch, what: What, fits: bool) -> Task
 }
 
 // The case, with a register of n records and a book of m places. Where slots pass, the lengths are asked first.
+#[tactic(auto, unfolding(crate::specs::Told::told_of))]
 pub fn told(n: usize, m: usize, bytes: &[u8], x: Ask) -> Case
     ensures { result ≡ told_of n m bytes.now x }
 {

@@ -1,6 +1,5 @@
 // Choosing behind a C call, so that it can be timed and held against the second program. The board does not have it. Promise: the answer packs what the public call
-// `choose` answers, and register and book are left as that leaves them (specs/Testface.antt). The functions that are lent the register are proved by hand, as
-// instances of `walks`.
+// `choose` answers, and register and book are left as that leaves them (specs/Testface.antt).
 #![tactic(auto)]
 
 ghost use Rattle.std.specs.Prelude.{◌≡◌, ◌<◌, length, get_or};

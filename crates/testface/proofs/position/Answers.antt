@@ -1,0 +1,16 @@
+-- `position` meets its contract: the number is read back from its bits.
+-- Assumes nothing.
+use mathlib.Core.Path.{ap₂, ◌∙◌}
+use Prim.Native.Nat.{ℕ, ◌+◌, ◌*◌, ◌%◌}
+use mir.Syntax.{w32}
+use mir.Facts.{to_z-of_z}
+use borrow.Author.Rules.{sfits_of}
+use Rattle.message.specs.Signs.{signed_of}
+use Rattle.testface.specs.Testface.{place_at}
+use Rattle.testface.proofs.position.Goals as goal
+
+pub returns : goal.returns
+unfolding place_at
+returns c =
+    to_z-of_z {w = w32} (sfits_of c.signed.type_inv) ∙ c.signed.ensures
+    ∙ ap₂ (λ (a b : ℕ). signed_of 28 (a + 65536 * (b % 4096))) c.word-low.ensures c.word-high.ensures
