@@ -19,7 +19,7 @@ pub returns-then-s-gt0 : goal.returns-then-s-gt0
 returns-then-s-gt0 c =
     let u = c.struct_told-2-1.given in
     let it = c.known.ensures ∙ place-back _ _ u.1.1.0.1 u.1.1.1.0.1 in
-    level-held _ _ c.if-s.false (sym it ∙ c.if-not-known.false) c.if-s-gt0.true
+    level-held _ _ c.if-s.false (sym it ∙ c.if-not-known.false) (omega (arith, c.if-s-gt0.true))
 
 pub overflow_add-result : goal.overflow_add-result
 overflow_add-result c =
@@ -40,4 +40,4 @@ returns c =
     let t = c.struct_told-4-1.given in
     let it = c.known.ensures ∙ place-back _ _ u.1.1.0.1 u.1.1.1.0.1 in
     let far = c.distance.ensures ∙ distance_back _ _ _ _ t.1.0.1 t.1.1.0.1 u.1.1.0.1 u.1.1.1.0.1 in
-    level-far _ _ c.if-s.false (sym it ∙ c.if-not-known.false) c.if-s-gt0.false _ far
+    level-far _ _ c.if-s.false (sym it ∙ c.if-not-known.false) (omega (arith, c.if-s-gt0.false)) _ far
