@@ -76,6 +76,7 @@ fn winner(t: Turn) -> usize
 }
 
 // The record of the station that lost a slot time: one less, and held off where the slot time became ours.
+#[tactic(auto, unfolding(crate::specs::Register::less_by))]
 fn less(s: Station, t: Turn) -> Station
     ensures { result ≡ less_by s t }
 {

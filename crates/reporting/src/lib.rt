@@ -65,6 +65,7 @@ fn sub_message(
 }
 
 // Whether hour and minute are such.
+#[tactic(auto, unfolding(crate::specs::Report::time_fits))]
 pub fn fits(time: Time) -> bool
     ensures { result ≡ time_fits time }
 {
