@@ -16,7 +16,7 @@ use Rattle.limits.specs.Limits.{frame_slots, slot_times, records}
 use Rattle.ship.specs.declared.Station.{Station}
 use Rattle.book.specs.declared.Watch.{Watch}
 use Rattle.book.specs.Book.{place}
-use Rattle.numbers.specs.declared.Refusal.TheVariants.{WindowTaken, NoCandidate as None, DrawBack, BeyondBook}
+use Rattle.numbers.specs.declared.Refusal.TheVariants.{WindowTaken, NoCandidate as NoneThere, DrawBack, BeyondBook}
 use Rattle.candidates.specs.declared.Picked.{Picked}
 use Rattle.candidates.specs.declared.Picked.TheVariants.{At, NoCandidate, SentBack, Taken}
 use Rattle.candidates.specs.declared.Window.{Window}
@@ -40,7 +40,7 @@ use Rattle.choosing.specs.Owning.{refused_by, owned_at, owning_at, owning_of, In
 -- the tests on it, and what is answered where they hold, m being the time-out
 abbrev pub drawn_tests : State → ℕ → Picked → List (Bool × Answered)
 drawn_tests s m p =
-    (not (is_no p), no s None) ∷ (not (is_back p), no s DrawBack) ∷ (ltb (distance_in p + frame_slots * m) slot_times, no s BeyondBook) ∷ []
+    (not (is_no p), no s NoneThere) ∷ (not (is_back p), no s DrawBack) ∷ (ltb (distance_in p + frame_slots * m) slot_times, no s BeyondBook) ∷ []
 
 abbrev pub drawn_slot : State → ℕ → Picked → Answered
 drawn_slot s m p =

@@ -11,7 +11,7 @@ use types.Run.{OneOf}
 use lib.ListN.{get_or}
 use Rattle.laws.specs.Counting.{one}
 use Rattle.limits.specs.Limits.{frame_slots, slot_times}
-use Rattle.numbers.specs.declared.Refusal.TheVariants.{WindowTaken, NoCandidate as None, DrawBack, BeyondBook}
+use Rattle.numbers.specs.declared.Refusal.TheVariants.{WindowTaken, NoCandidate as NoneThere, DrawBack, BeyondBook}
 use Rattle.book.specs.declared.Handing.{Handing}
 use Rattle.book.specs.Book.{ours, place, put_at, Puts}
 use Rattle.candidates.specs.declared.Picked.{Picked}
@@ -46,7 +46,7 @@ module _ (q : Query) where
   drew-taken SentBack e = absurd (omega arith)
   drew-taken (At x n) e = absurd (omega arith)
 
-  pub drew-none : (p : Picked) → OneOf (1 ∷ []) (tag_of picked-type p) → refused_by q None ≡ owning_of q p
+  pub drew-none : (p : Picked) → OneOf (1 ∷ []) (tag_of picked-type p) → refused_by q NoneThere ≡ owning_of q p
   drew-none NoCandidate e = refl
   drew-none Taken e = absurd (omega arith)
   drew-none SentBack e = absurd (omega arith)

@@ -5,7 +5,7 @@ use Rattle.laws.specs.Tests.{ladder}
 use Rattle.laws.specs.Loops.{upto}
 use Rattle.laws.specs.Ranges.{how_many}
 use Rattle.limits.specs.Limits.{frame_slots, slot_times}
-use Rattle.numbers.specs.declared.Refusal.TheVariants.{OtherLength, OutOfRange, NoPlan, WindowTaken, NoCandidate as None, DrawBack, BeyondBook}
+use Rattle.numbers.specs.declared.Refusal.TheVariants.{OtherLength, OutOfRange, NoPlan, WindowTaken, NoCandidate as NoneThere, DrawBack, BeyondBook}
 use Rattle.book.specs.Book.{place}
 use Rattle.book.specs.Planning.{plan_fits}
 use Rattle.candidates.specs.declared.Picked.{Picked}
@@ -34,7 +34,7 @@ replaced_in slots present d n = how_many (λ i. not (is_none (holder_at slots pr
 abbrev pub draw_tests : State → Wanted → List (Bool × Answered)
 draw_tests s a =
     (not (any_own s.book (window_of s.watch a)), no s WindowTaken)
-    ∷ (not (is_no (drawn_in s a)), no s None)
+    ∷ (not (is_no (drawn_in s a)), no s NoneThere)
     ∷ (not (is_back (drawn_in s a)), no s DrawBack)
     ∷ (ltb (distance_in (drawn_in s a) + frame_slots * a.timeout) slot_times, no s BeyondBook)
     ∷ []

@@ -6,7 +6,7 @@ use Rattle.laws.specs.Loops.{upto}
 use Rattle.laws.specs.Counting.{one}
 use Rattle.limits.specs.Limits.{frame_slots, slot_times, records}
 use Rattle.numbers.specs.declared.Refusal.{Refusal}
-use Rattle.numbers.specs.declared.Refusal.TheVariants.{WindowTaken, NoCandidate as None, DrawBack, BeyondBook}
+use Rattle.numbers.specs.declared.Refusal.TheVariants.{WindowTaken, NoCandidate as NoneThere, DrawBack, BeyondBook}
 use Rattle.ship.specs.declared.Station.{Station}
 use Rattle.book.specs.Book.{ours, place, put_at, Puts}
 use Rattle.candidates.specs.declared.Picked.{Picked}
@@ -44,7 +44,7 @@ owning_at q x n = pick (ltb (x + frame_slots * q.window.timeout) slot_times) (ow
 
 abbrev pub owning_of : Query → Picked → Owning
 owning_of q (At x n) = owning_at q x n
-owning_of q NoCandidate = refused_by q None
+owning_of q NoCandidate = refused_by q NoneThere
 owning_of q SentBack = refused_by q DrawBack
 owning_of q Taken = refused_by q WindowTaken
 
