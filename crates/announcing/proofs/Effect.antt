@@ -22,7 +22,8 @@ use Rattle.book.specs.Sound.{Sound}
 use Rattle.book.proofs.Lengths.{SameSizes, mark-sizes, free-sizes}
 use Rattle.book.proofs.Soundness.{sound-mark, sound-free}
 use Rattle.announcing.specs.declared.rows.Row.{Row}
-use Rattle.announcing.specs.Rows.{in_run, has_time, marks_time, frees_time, at_times, booked, end_of, in_book}
+use Rattle.announcing.specs.Rows.{marks_by, in_run, has_time, marks_time, frees_time, at_times, booked, end_of, in_book}
+use Rattle.announcing.proofs.Ends.{first-inside}
 
 -- ---- one place
 
@@ -201,6 +202,6 @@ module _ (r : Row) (d : ℕ) where
 pub none-beyond : (rows : List Row) → in_book rows ≡ true → (d : ℕ) → slot_times ≤ d → marks_time rows d ≡ false
 none-beyond [] e d l = refl
 none-beyond (r ∷ rows) e d l =
-    let ends = leb-true (end_of r) slot_times (both_left (leb (end_of r) slot_times) (in_book rows) e) in
-    let rest = none-beyond rows (both_right (leb (end_of r) slot_times) (in_book rows) e) d l in
-    rw (has-ends r d (omega arith), both-no r.marks) rest
+    let ends = leb-true (end_of r) slot_times (first-inside r rows e).0 in
+    let rest = none-beyond rows (first-inside r rows e).1 d l in
+    rw (has-ends r d (omega arith), both-no (marks_by r.kind)) rest

@@ -1,12 +1,13 @@
 -- A report's rows filled up with unused ones announce what they announce alone; and a report has no more rows than the code keeps.
 -- Assumes nothing.
 use mathlib.Core.Path.{◌≡◌, refl, ap, ap₂, ◌∙◌}
-use mathlib.Core.Bool.{Bool, true, false, not}
+use mathlib.Core.Bool.{Bool, false, not}
 use mathlib.Core.List.{List, [], ◌∷◌}
 use Prim.Native.Nat.{ℕ, zero, suc, ◌≤◌}
 use native.Mathlib.Omega.{arith}
 use lib.Dec.{eqb, leb}
 use lib.ListN.{length, get_or, length-append}
+use Rattle.std.specs.Prelude.{◌&&◌}
 use Rattle.laws.specs.Tests.{both, either, pick}
 use Rattle.laws.specs.Ranges.{some, how_many}
 use Rattle.laws.proofs.Tests.{pick-has}
@@ -18,7 +19,8 @@ use Rattle.message.specs.State.{slots_of, distance_of}
 use Rattle.message.specs.declared.state.State.TheVariants.{SelfOrganised as Organised, Incremental as Increasing}
 use Rattle.book.specs.Book.{Book, place, mark_at, free_at}
 use Rattle.announcing.specs.declared.rows.Row.{Row}
-use Rattle.announcing.specs.Rows.{has_time, marks_time, frees_time, at_times, booked, held_of, end_of, in_book}
+use Rattle.announcing.specs.declared.rows.Kind.TheVariants.{Mark}
+use Rattle.announcing.specs.Rows.{marks_by, has_time, marks_time, frees_time, at_times, booked, held_of, end_of, in_book}
 use Rattle.announcing.specs.Announce.{block, every_frame, offset, keeps, announces, most_rows, unused, filled_to, filled}
 
 -- ---- unused rows change nothing
@@ -31,20 +33,20 @@ marks-to : (n : ℕ) (rs : List Row) → length rs ≤ n → (d : ℕ) → marks
 marks-to zero [] l d = refl
 marks-to zero (r ∷ rs) l d = absurd (omega arith)
 marks-to (suc n) [] l d = marks-to n [] (omega arith) d
-marks-to (suc n) (r ∷ rs) l d = ap (either (both r.marks (has_time r d))) (marks-to n rs (omega arith) d)
+marks-to (suc n) (r ∷ rs) l d = ap (either (both (marks_by r.kind) (has_time r d))) (marks-to n rs (omega arith) d)
 
 frees-to : (n : ℕ) (rs : List Row) → length rs ≤ n → (d : ℕ) → frees_time (filled_to n rs) d ≡ frees_time rs d
 frees-to zero [] l d = refl
 frees-to zero (r ∷ rs) l d = absurd (omega arith)
 frees-to (suc n) [] l d = ap (λ (t : Bool). either t (frees_time (filled_to n []) d)) (unused-none d) ∙ frees-to n [] (omega arith) d
-frees-to (suc n) (r ∷ rs) l d = ap (either (both (not r.marks) (has_time r d))) (frees-to n rs (omega arith) d)
+frees-to (suc n) (r ∷ rs) l d = ap (either (both (not (marks_by r.kind)) (has_time r d))) (frees-to n rs (omega arith) d)
 
 in-to : (n : ℕ) (rs : List Row) → length rs ≤ n → in_book (filled_to n rs) ≡ in_book rs
 unfolding end_of
 in-to zero [] l = refl
 in-to zero (r ∷ rs) l = absurd (omega arith)
 in-to (suc n) [] l = in-to n [] (omega arith)
-in-to (suc n) (r ∷ rs) l = ap (both (leb (end_of r) slot_times)) (in-to n rs (omega arith))
+in-to (suc n) (r ∷ rs) l = ap (λ (t : Bool). leb (end_of r) slot_times && t) (in-to n rs (omega arith))
 
 module _ (rs : List Row) (few : length rs ≤ most_rows) where
   pub marks-filled : (d : ℕ) → marks_time (filled rs) d ≡ marks_time rs d
@@ -90,4 +92,4 @@ pub few-announced : (s : State) → length (announces s) ≤ most_rows
 unfolding announces
 few-announced (Organised s) = omega (arith, offset-few s.sub)
 few-announced (Increasing s) =
-    omega (arith, length-append (keeps s) (block (distance_of s) (slots_of s) ∷ []), pick-few 1 (eqb s.keep 1) (every_frame 1 1 true ∷ []) [] (omega arith) (omega arith))
+    omega (arith, length-append (keeps s) (block (distance_of s) (slots_of s) ∷ []), pick-few 1 (eqb s.keep 1) (every_frame 1 1 Mark ∷ []) [] (omega arith) (omega arith))

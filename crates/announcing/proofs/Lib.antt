@@ -1,6 +1,5 @@
 pub mod Filling
 pub mod Ends
-pub mod Making
 pub mod Skipping
 pub mod Finding
 pub mod Holding

@@ -1,6 +1,7 @@
 -- The next time that passes a test, by the next of its parts; and turns that change nothing may be left out.
 -- Assumes nothing.
-use mathlib.Core.Path.{◌≡◌, sym, ap, ◌∙◌}
+use mathlib.Core.Path.{◌≡◌, refl, sym, ap, ◌∙◌, subst}
+use Rattle.std.specs.Prelude.{Option, Some, None}
 use mathlib.Core.Bool.{Bool, true, false}
 use Prim.Native.Nat.{ℕ, zero, suc, ◌+◌, ◌-◌, ◌≤◌, ◌<◌, min}
 use native.Mathlib.Nat.{add-zero, add-suc}
@@ -13,7 +14,7 @@ use Rattle.laws.specs.Ranges.{how_many}
 use Rattle.laws.proofs.Tests.{either_true}
 use Rattle.laws.proofs.Upto.{upto-none, upto-more}
 use Rattle.limits.specs.Limits.{slot_times}
-use Rattle.announcing.specs.Next.{Next}
+use Rattle.announcing.specs.Next.{Next, NextTime, sooner}
 
 -- ---- the next time
 
@@ -22,7 +23,7 @@ pub next-none : {p : ℕ → Bool} {d : ℕ} → d ≤ slot_times → ((e : ℕ)
 next-none l n = record { ahead = l; inside = omega arith; skips = λ e h k. n e; passes = λ h. absurd (omega arith) }
 
 -- where w passes what p or q passes, the sooner of both
-module _ {p q w : ℕ → Bool} (is : (e : ℕ) → w e ≡ either (p e) (q e)) {d a b : ℕ} (m : Next p d a) (n : Next q d b) where
+module _ (p q w : ℕ → Bool) (is : (e : ℕ) → w e ≡ either (p e) (q e)) (d : ℕ) where
   neither : (e : ℕ) → p e ≡ false → q e ≡ false → w e ≡ false
   neither e f g = is e ∙ simp (f, g)
 
@@ -32,8 +33,8 @@ module _ {p q w : ℕ → Bool} (is : (e : ℕ) → w e ≡ either (p e) (q e)) 
   second : (e : ℕ) → q e ≡ true → w e ≡ true
   second e g = is e ∙ ap (either (p e)) g ∙ either_true (p e)
 
-  pub next-sooner : (r : ℕ) → r ≡ min a b → Next w d r
-  next-sooner r e =
+  next-sooner : {a b : ℕ} → Next p d a → Next q d b → (r : ℕ) → r ≡ min a b → Next w d r
+  next-sooner {a} {b} m n r e =
       record {
         ahead = omega arith;
         inside = omega arith;
@@ -44,6 +45,17 @@ module _ {p q w : ℕ → Bool} (is : (e : ℕ) → w e ≡ either (p e) (q e)) 
       go : r < slot_times → Dec (a ≤ b) → w r ≡ true
       go l (yes h) = let z : a ≡ r = omega arith in first r (ap p (sym z) ∙ m.passes (omega arith))
       go l (no h) = let z : b ≡ r = omega arith in second r (ap q (sym z) ∙ n.passes (omega arith))
+
+  -- the same of answers
+  pub sooner-time : (a b : Option ℕ) → NextTime p d a → NextTime q d b → NextTime w d (sooner a b)
+  sooner-time None None m n = next-sooner m n slot_times refl
+  sooner-time None (Some y) m n = (next-sooner m n.0 y (omega arith), n.1)
+  sooner-time (Some x) None m n = (next-sooner m.0 n x (omega arith), m.1)
+  sooner-time (Some x) (Some y) m n = (next-sooner m.0 n.0 (min x y) refl, omega arith)
+
+-- the next time of a test is that of any test that passes the same
+pub time-ext : {p q : ℕ → Bool} (d : ℕ) (r : Option ℕ) → ((e : ℕ) → p e ≡ q e) → NextTime p d r → NextTime q d r
+time-ext {p} {q} d r h n = let same : p ≡ q = λ i e. h e i in subst (λ (w : ℕ → Bool). NextTime w d r) same n
 
 -- ---- turns that change nothing
 

@@ -1,11 +1,13 @@
 -- The next time: what the code goes by from one time of a row to the next.
 -- Assumes nothing.
-use Rattle.std.specs.Prelude.{◌≡◌, Bool, true, false, not, List, ℕ, ◌+◌, ◌*◌, ◌≤◌, ◌<◌}
-use Rattle.laws.specs.Tests.{both, pick}
+use Rattle.std.specs.Prelude.{◌≡◌, Bool, true, false, not, List, ℕ, ◌+◌, ◌*◌, ◌≤◌, ◌<◌, min, Option, Some, None}
+use Rattle.laws.specs.Tests.{both}
 use Rattle.laws.specs.Ranges.{some}
 use Rattle.limits.specs.Limits.{slot_times}
 use Rattle.announcing.specs.declared.rows.Row.{Row}
-use Rattle.announcing.specs.Rows.{in_run, has_time, marks_time, frees_time}
+use Rattle.announcing.specs.declared.rows.Kind.{Kind}
+use Rattle.announcing.specs.declared.rows.Kind.TheVariants.{Mark, Free}
+use Rattle.announcing.specs.Rows.{in_run, has_time, marks, marks_time, frees_time}
 
 -- r is the smallest time from d on that passes the test, or the end of the book where no time before it does
 pub record Next (p : ℕ → Bool) (d r : ℕ) : Type 0 where
@@ -13,6 +15,17 @@ pub record Next (p : ℕ → Bool) (d r : ℕ) : Type 0 where
   pub inside : r ≤ slot_times
   pub skips : (e : ℕ) → d ≤ e → e < r → p e ≡ false
   pub passes : r < slot_times → p r ≡ true
+
+-- the next time as an answer: none where no time from d on passes
+abbrev pub NextTime : (ℕ → Bool) → ℕ → Option ℕ → Type 0
+NextTime p d None = Next p d slot_times
+NextTime p d (Some t) = Next p d t × (t < slot_times)
+
+-- the sooner of two
+abbrev pub sooner : Option ℕ → Option ℕ → Option ℕ
+sooner None b = b
+sooner (Some x) None = Some x
+sooner (Some x) (Some y) = Some (min x y)
 
 -- of so many runs, each a step farther, i is the last that begins at most `past` behind the first
 pub record Last (past step times i : ℕ) : Type 0 where
@@ -24,9 +37,12 @@ pub record Last (past step times i : ℕ) : Type 0 where
 unfoldable pub runs_time : Row → ℕ → ℕ → Bool
 runs_time r a d = some (λ i. in_run (a + r.step * i) r.slots d) r.times
 
--- the times of the rows that mark, or of those that free
-unfoldable pub of_kind : Bool → Row → ℕ → Bool
-of_kind marks r d = both (pick marks r.marks (not r.marks)) (has_time r d)
+-- the times of a row, if it is of the kind
+unfoldable pub of_kind : Kind → Row → ℕ → Bool
+of_kind Mark r d = both (marks r) (has_time r d)
+of_kind Free r d = both (not (marks r)) (has_time r d)
 
-abbrev pub kind_time : Bool → List Row → ℕ → Bool
-kind_time marks rows = pick marks (marks_time rows) (frees_time rows)
+-- the times of the rows that mark, or of those that free
+abbrev pub kind_time : Kind → List Row → ℕ → Bool
+kind_time Mark rows = marks_time rows
+kind_time Free rows = frees_time rows

@@ -1,12 +1,15 @@
 -- What a report announces, as rows of slot times ahead, and what it does to the book: each time ahead once, if some row has it.
 -- Assumes nothing.
 use Rattle.std.specs.Prelude.{ℕ, ◌+◌, ◌-◌, ◌*◌, Bool, true, false, not, List, [], ◌∷◌, eqb, leb, ltb, get_or}
+use Rattle.std.specs.List.{list_all}
 use Rattle.laws.specs.Tests.{both, either, pick}
 use Rattle.laws.specs.Loops.{upto}
 use Rattle.laws.specs.Ranges.{some, how_many}
 use Rattle.limits.specs.Limits.{frame_slots, slot_times}
 use Rattle.book.specs.Book.{Book, place, mark_at, free_at}
 use Rattle.announcing.specs.declared.rows.Row.{Row}
+use Rattle.announcing.specs.declared.rows.Kind.{Kind}
+use Rattle.announcing.specs.declared.rows.Kind.TheVariants.{Mark, Free}
 
 -- ---- the times of a row
 
@@ -18,14 +21,22 @@ in_run a n d = both (leb a d) (ltb d (a + n))
 unfoldable pub has_time : Row → ℕ → Bool
 has_time r d = some (λ f. some (λ i. in_run (r.from + r.step * i + frame_slots * f) r.slots d) r.times) r.frames
 
+abbrev pub marks_by : Kind → Bool
+marks_by Mark = true
+marks_by Free = false
+
+-- the row marks its times; else it frees them
+abbrev pub marks : Row → Bool
+marks r = marks_by r.kind
+
 -- some row marks the time d ahead for the station, or frees it if the station holds it
 abbrev pub marks_time : List Row → ℕ → Bool
 marks_time [] d = false
-marks_time (r ∷ rs) d = either (both r.marks (has_time r d)) (marks_time rs d)
+marks_time (r ∷ rs) d = either (both (marks r) (has_time r d)) (marks_time rs d)
 
 abbrev pub frees_time : List Row → ℕ → Bool
 frees_time [] d = false
-frees_time (r ∷ rs) d = either (both (not r.marks) (has_time r d)) (frees_time rs d)
+frees_time (r ∷ rs) d = either (both (not (marks r)) (has_time r d)) (frees_time rs d)
 
 -- ---- the book
 
@@ -54,5 +65,4 @@ end_of r = pick (is_empty r) 0 (r.from + r.step * (r.times - 1) + frame_slots * 
 
 -- no row reaches beyond the book
 abbrev pub in_book : List Row → Bool
-in_book [] = true
-in_book (r ∷ rs) = both (leb (end_of r) slot_times) (in_book rs)
+in_book rs = list_all (λ (r : Row). leb (end_of r) slot_times) rs

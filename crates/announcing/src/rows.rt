@@ -4,13 +4,20 @@ ghost use Rattle.limits.specs.Limits.{slot_times, most_time_out};
 ghost use Rattle.message.specs.State.{time_out_of, slots_of, distance_of};
 ghost use Rattle.message.specs.declared.state.State.TheVariants.{SelfOrganised as Organised, Incremental as Increasing};
 ghost use Rattle.announcing.specs.Rows.{is_empty, end_of, in_book};
-ghost use Rattle.announcing.specs.Announce.{block, every_frame, offset, announces, unused, filled_to, filled};
+ghost use Rattle.announcing.specs.Announce.{block, every_frame, offset, announces, filled_to, filled};
 
 use limits::{FRAME, MOST_TIME_OUT, SLOT_TIMES};
 use message::state::{Incremental, SelfOrganised, State, SubMessage, time_out};
 
-// `slots` times in a row from `from` ahead on, again `step` farther, `times` in all, and the same in `frames` frames: marked for the station, or freed
-// if it holds them. Its parts are as small as they may be, since a report keeps its rows on the stack.
+// What a row does with its times: marks them for the station, or frees those that it holds.
+#[derive(Clone, Copy, PartialEq, Eq)]
+pub enum Kind {
+    Mark,
+    Free,
+}
+
+// `slots` times in a row from `from` ahead on, again `step` farther, `times` in all, and the same in `frames` frames. Its parts are as small as they may be,
+// since a report keeps its rows on the stack.
 #[derive(Clone, Copy)]
 pub struct Row {
     pub from: usize,
@@ -18,10 +25,11 @@ pub struct Row {
     pub step: u16,
     pub times: u16,
     pub frames: u16,
-    pub marks: bool,
+    pub kind: Kind,
 }
 
-// The most rows of a report. One that has fewer leaves the others unused.
+// The most rows of a report. One that has fewer fills up with unused ones: an array and no list with a length, so that a report with its rows can be copied,
+// and a row without a time needs no test that other rows do not.
 pub const ROWS: usize = 3;
 
 // A frame and the largest time-out, as the parts of a row are.
@@ -31,25 +39,14 @@ const MOST: u16 = MOST_TIME_OUT as u16;
 
 // ---- what a state announces
 
-fn unused() -> Row
-    ensures { result ≡ unused }
-{
-    Row {
-        from: 0,
-        slots: 0,
-        step: 0,
-        times: 0,
-        frames: 0,
-        marks: false,
-    }
-}
-
-// No row at all.
-pub fn no_rows() -> [Row; ROWS]
-    ensures { result ≡ filled [] }
-{
-    [unused(); ROWS]
-}
+const UNUSED: Row = Row {
+    from: 0,
+    slots: 0,
+    step: 0,
+    times: 0,
+    frames: 0,
+    kind: Kind::Free,
+};
 
 fn block(d: usize, n: u32) -> Row
     ensures { result ≡ block d n }
@@ -60,13 +57,13 @@ fn block(d: usize, n: u32) -> Row
         step: 0,
         times: 1,
         frames: 1,
-        marks: true,
+        kind: Kind::Mark,
     }
 }
 
-fn every_frame(i: usize, n: u16, marks: bool) -> Row
+fn every_frame(i: usize, n: u16, kind: Kind) -> Row
     requires { i ≤ most_time_out + 1 }
-    ensures { result ≡ every_frame i n marks }
+    ensures { result ≡ every_frame i n kind }
 {
     Row {
         from: FRAME * i,
@@ -74,7 +71,7 @@ fn every_frame(i: usize, n: u16, marks: bool) -> Row
         step: STEP,
         times: n,
         frames: 1,
-        marks,
+        kind,
     }
 }
 
@@ -82,39 +79,33 @@ fn every_frame(i: usize, n: u16, marks: bool) -> Row
 fn frames(sub: SubMessage) -> u16
     ensures { result ≡ min (time_out_of sub) most_time_out }
 {
-    let n = time_out(sub);
-    if n > MOST as u32 {
-        return MOST;
-    }
-    n as u16
+    time_out(sub).min(u32::from(MOST)) as u16
 }
 
 // One slot at the offset, if the time-out is 0 and the offset is not.
 fn offset(sub: SubMessage) -> Row
     ensures { result ∷ [] ≡ filled_to 1 (offset sub) }
 {
-    let SubMessage::Offset(d) = sub else {
-        return unused();
-    };
-    if d == 0 {
-        return unused();
+    match sub {
+        SubMessage::Offset(d) if d > 0 => block(d as usize, 1),
+        _ => UNUSED,
     }
-    block(d as usize, 1)
 }
 
+#[tactic(auto, unfolding(crate::specs::Announce::announces, crate::specs::Announce::filled))]
 fn organised(s: SelfOrganised) -> [Row; ROWS]
     ensures { result ≡ filled (announces (Organised s)) }
 {
-    let sub = s.sub;
-    let n = frames(sub);
-    let mut rows = [unused(); ROWS];
-    rows[0] = every_frame(n as usize + 1, MOST - n, false);
-    rows[1] = every_frame(1, n, true);
-    rows[2] = offset(sub);
-    rows
+    let n = frames(s.sub);
+    [
+        every_frame(usize::from(n) + 1, MOST - n, Kind::Free),
+        every_frame(1, n, Kind::Mark),
+        offset(s.sub),
+    ]
 }
 
 // Codes 0 to 4 announce 1 to 5 slots, codes 5 to 7 announce 1 to 3; increment 0 announces none.
+#[tactic(auto, unfolding(message::specs::State::slots_of))]
 fn slots(i: Incremental) -> u32
     ensures { result ≡ slots_of i }
 {
@@ -128,6 +119,7 @@ fn slots(i: Incremental) -> u32
 }
 
 // The slots of codes 5 to 7 are 8,192 farther ahead.
+#[tactic(auto, unfolding(message::specs::State::distance_of))]
 fn distance(i: Incremental) -> usize
     ensures { result ≡ distance_of i }
 {
@@ -139,18 +131,15 @@ fn distance(i: Incremental) -> usize
 }
 
 // Keep 1 keeps the slot in the next frame.
+#[tactic(auto, unfolding(crate::specs::Announce::announces, crate::specs::Announce::filled))]
 fn incremental(i: Incremental) -> [Row; ROWS]
     ensures { result ≡ filled (announces (Increasing i)) }
 {
     let ahead = block(distance(i), slots(i));
-    let mut rows = [unused(); ROWS];
     if i.keep == 1 {
-        rows[0] = every_frame(1, 1, true);
-        rows[1] = ahead;
-        return rows;
+        return [every_frame(1, 1, Kind::Mark), ahead, UNUSED];
     }
-    rows[0] = ahead;
-    rows
+    [ahead, UNUSED, UNUSED]
 }
 
 // Message 3 alone carries the incremental state.
@@ -168,38 +157,27 @@ pub fn announced(state: State) -> [Row; ROWS]
 pub fn is_empty(r: Row) -> bool
     ensures { result ≡ is_empty r }
 {
-    if r.slots == 0 {
-        return true;
-    }
-    if r.times == 0 {
-        return true;
-    }
-    r.frames == 0
+    r.slots == 0 || r.times == 0 || r.frames == 0
 }
 
 // The parts of a row are small, so they can be added up, whatever they are, once its start is known to lie in the book.
-fn row_within(r: Row) -> bool
-    ensures { result ≡ leb (end_of r) slot_times }
+#[tactic(auto, unfolding(crate::specs::Rows::end_of))]
+fn row_within(r: &Row) -> bool
+    ensures { result ≡ leb (end_of r.now) slot_times }
 {
-    if is_empty(r) {
+    if is_empty(*r) {
         return true;
     }
     if r.from > SLOT_TIMES {
         return false;
     }
-    let last = r.step as usize * (r.times as usize - 1) + FRAME * (r.frames as usize - 1);
+    let last = usize::from(r.step) * (usize::from(r.times) - 1)
+        + FRAME * (usize::from(r.frames) - 1);
     r.from + last + r.slots as usize <= SLOT_TIMES
 }
 
 pub fn within(rows: [Row; ROWS]) -> bool
     ensures { result ≡ in_book rows }
 {
-    let mut i: usize = 0;
-    while i < ROWS {
-        if !row_within(rows[i]) {
-            return false;
-        }
-        i += 1;
-    }
-    true
+    rows.iter().all(row_within)
 }

@@ -1,16 +1,23 @@
 // The times of rows, one after the other, without a pass over all slot times. Promise: each answer is the next time of what it asks (specs/Next.antt).
-ghost use Rattle.std.specs.Prelude.{◌≡◌, true, ◌+◌, ◌-◌, ◌*◌, ◌/◌, ◌≤◌, ◌<◌, min, leb};
+ghost use Rattle.std.specs.Prelude.{◌≡◌, true, ◌+◌, ◌-◌, ◌*◌, ◌/◌, ◌≤◌, ◌<◌, leb};
 ghost use Rattle.limits.specs.Limits.{slot_times};
 ghost use Rattle.announcing.specs.Rows.{has_time, end_of, in_book};
-ghost use Rattle.announcing.specs.Next.{Next, Last, runs_time, of_kind, kind_time};
+ghost use Rattle.announcing.specs.Next.{NextTime, sooner, Last, runs_time, kind_time};
 
-use crate::rows::{ROWS, Row, is_empty};
-use limits::{FRAME, SLOT_TIMES};
+use crate::rows::{Kind, ROWS, Row, is_empty};
+use limits::FRAME;
 
-fn sooner(a: usize, b: usize) -> usize
-    ensures { result ≡ min a b }
+// The sooner of two times, of which there may be none.
+fn sooner(a: Option<usize>, b: Option<usize>) -> Option<usize>
+    ensures { result ≡ sooner a b }
 {
-    if a < b { a } else { b }
+    let Some(x) = a else {
+        return b;
+    };
+    let Some(y) = b else {
+        return a;
+    };
+    Some(x.min(y))
 }
 
 // Whole steps in a distance. Most rows step by frames, and dividing by a constant takes a fraction of the time.
@@ -32,71 +39,55 @@ fn last_run(past: usize, step: usize, times: usize) -> usize
     if step == 0 {
         return times - 1;
     }
-    let i = steps(past, step);
-    if i < times {
-        return i;
-    }
-    times - 1
+    steps(past, step).min(times - 1)
 }
 
 // Among the runs of a row in one frame, the first of them `a` ahead. If that run is over, the next one begins the soonest.
-fn next_run(r: Row, a: usize, d: usize) -> usize
+fn next_run(r: Row, a: usize, d: usize) -> Option<usize>
     requires { (0 < r.slots) × (0 < r.times) × (a + r.step * (r.times - 1) + r.slots ≤ slot_times) × (d ≤ slot_times) }
-    ensures { Next (runs_time r a) d result }
+    ensures { NextTime (runs_time r a) d result }
 {
     if d <= a {
-        return a;
+        return Some(a);
     }
     let past = d - a;
     let step = r.step as usize;
     let times = r.times as usize;
     let i = last_run(past, step, times);
     if past - step * i < r.slots as usize {
-        return d;
+        return Some(d);
     }
     if i + 1 < times {
-        return a + step * (i + 1);
+        return Some(a + step * (i + 1));
     }
-    SLOT_TIMES
+    None
 }
 
-fn next_in(r: Row, d: usize) -> usize
+#[tactic(auto, unfolding(crate::specs::Rows::end_of))]
+fn next_in(r: Row, d: usize) -> Option<usize>
     requires { (leb (end_of r) slot_times ≡ true) × (d ≤ slot_times) }
-    ensures { Next (has_time r) d result }
+    ensures { NextTime (has_time r) d result }
 {
     if is_empty(r) {
-        return SLOT_TIMES;
+        return None;
     }
-    let mut t = SLOT_TIMES;
-    let mut f: usize = 0;
-    while f < r.frames as usize {
+    let mut t = None;
+    for f in 0..usize::from(r.frames) {
         t = sooner(t, next_run(r, r.from + FRAME * f, d));
-        f += 1;
     }
     t
 }
 
-// Only a row of the kind that is asked for has times.
-fn next_of(r: Row, d: usize, marks: bool) -> usize
-    requires { (leb (end_of r) slot_times ≡ true) × (d ≤ slot_times) }
-    ensures { Next (of_kind marks r) d result }
-{
-    if r.marks != marks {
-        return SLOT_TIMES;
-    }
-    next_in(r, d)
-}
-
-// The next time from d on that some row marks, or frees; SLOT_TIMES where there is none.
-pub fn next_time(rows: [Row; ROWS], d: usize, marks: bool) -> usize
+// The next time from d on that some row of the kind has.
+pub fn next_time(rows: [Row; ROWS], d: usize, kind: Kind) -> Option<usize>
     requires { (in_book rows ≡ true) × (d ≤ slot_times) }
-    ensures { Next (kind_time marks rows) d result }
+    ensures { NextTime (kind_time kind rows) d result }
 {
-    let mut t = SLOT_TIMES;
-    let mut i: usize = 0;
-    while i < ROWS {
-        t = sooner(t, next_of(rows[i], d, marks));
-        i += 1;
+    let mut t = None;
+    for r in rows {
+        if r.kind == kind {
+            t = sooner(t, next_in(r, d));
+        }
     }
     t
 }

@@ -3,19 +3,19 @@
 use mathlib.Core.Path.{◌≡◌, refl, sym, ap, ap₂, ◌∙◌}
 use mathlib.Core.Bool.{Bool, true, false}
 use mathlib.Core.List.{List, [], ◌∷◌, ◌++◌}
-use Prim.Native.Nat.{ℕ, zero, suc, ◌+◌, ◌-◌, ◌*◌, ◌/◌, ◌%◌, ◌^◌, ◌≤◌, ◌<◌}
+use Prim.Native.Nat.{ℕ, zero, suc, ◌+◌, ◌-◌, ◌*◌, ◌/◌, ◌%◌, ◌^◌, ◌≤◌, ◌<◌, max}
 use native.Mathlib.Nat.{zero-add, suc-add, add_comm, lt_of_lt_of_le, pow-suc, mul_assoc}
 use native.Mathlib.Numerals.{one-add}
 use native.Mathlib.Omega.{arith}
-use borrow.Author.Tests.{le-leb, leb-true}
+use borrow.Author.Tests.{le-leb, lt-leb, leb-true, leb-false}
 use lib.Arith.{digits_lt}
 use lib.Dec.{leb}
-use lib.ListN.{length, get_or, take, drop, length-take, length-drop, take-append-drop}
+use lib.ListN.{length, take, drop, length-take, take-append-drop}
 use lib.Pow.{pow_mono, shr-shr, mod-pow-add, high}
-use lib.Seq.{take_all, drop-drop, take-add}
+use lib.Seq.{drop-drop, take-add}
+use Rattle.std.specs.List.{fold}
 use Rattle.laws.specs.Tests.{both}
-use Rattle.laws.proofs.Tests.{both_left, both_right, both-no, both_yes}
-use Rattle.laws.proofs.Lists.{next}
+use Rattle.laws.proofs.Tests.{both_left, both_right, both_yes}
 use Rattle.bits.specs.Bits.{low_first, high_first, low_value, high_value, all_bits}
 
 -- ---- lists of bits
@@ -46,9 +46,6 @@ all_bits-take zero xs e = all_bits-end
 all_bits-take (suc n) [] e = e
 all_bits-take (suc n) (x ∷ xs) e = all_bits-more x (take n xs) (bit-head x xs e) ∙ all_bits-take n xs (bit-tail x xs e)
 
-pub bit_at : (xs : List ℕ) (i : ℕ) → all_bits xs ≡ true → i < length xs → get_or xs i 0 ≤ 1
-bit_at xs i e h = bit-head (get_or xs i 0) (drop (i + 1) xs) (rw (next xs i h) at (all_bits-drop i xs e))
-
 pub all_bits-append : (xs ys : List ℕ) → all_bits xs ≡ true → all_bits ys ≡ true → all_bits (xs ++ ys) ≡ true
 all_bits-append [] ys e f = f
 all_bits-append (x ∷ xs) ys e f = all_bits-more x (xs ++ ys) (bit-head x xs e) ∙ all_bits-append xs ys (bit-tail x xs e) f
@@ -69,37 +66,28 @@ all_bits-parts n l = ap all_bits (sym (take-append-drop n l)) ∙ all_bits-split
 pub blocks-no : (n : ℕ) (l : List ℕ) → all_bits (take n l) ≡ false → false ≡ all_bits l
 blocks-no n l e = sym (all_bits-parts n l ∙ ap (λ (t : Bool). both t (all_bits (drop n l))) e)
 
-pub blocks-yes : (n k : ℕ) (l : List ℕ) → k ≤ n → n ≤ length l → all_bits (take n l) ≡ true → all_bits (take (length l - k) (drop k l)) ≡ all_bits l
-blocks-yes n k l h room e =
+pub blocks-yes : (n k : ℕ) (l : List ℕ) → k ≤ n → all_bits (take n l) ≡ true → all_bits (drop k l) ≡ all_bits l
+blocks-yes n k l h e =
     let m : k + (n - k) ≡ n = omega arith in
     let back : drop (n - k) (drop k l) ≡ drop n l = drop-drop (n - k) k l ∙ ap (λ (j : ℕ). drop j l) m in
     let whole : take k l ++ take (n - k) (drop k l) ≡ take n l = sym (take-add k (n - k) l) ∙ ap (λ (j : ℕ). take j l) m in
     let front : all_bits (take (n - k) (drop k l)) ≡ true = both_right (all_bits (take k l)) (all_bits (take (n - k) (drop k l))) (sym (all_bits-split (take k l) (take (n - k) (drop k l))) ∙ ap all_bits whole ∙ e) in
-    ap all_bits (take_all (length l - k) (drop k l) (omega (arith, length-drop k l))) ∙ all_bits-parts (n - k) (drop k l) ∙ rw (front, back) (sym (all_bits-parts n l ∙ ap (λ (t : Bool). both t (all_bits (drop n l))) e))
+    all_bits-parts (n - k) (drop k l) ∙ rw (front, back) (sym (all_bits-parts n l ∙ ap (λ (t : Bool). both t (all_bits (drop n l))) e))
 
--- what `all_small` keeps: the greatest so far, and what is left
-abbrev pub up_to : ℕ → List ℕ → Bool
-up_to most bs = both (leb most 1) (all_bits bs)
-
-pub up_to-larger : (most b : ℕ) (bs : List ℕ) → most < b → up_to most (b ∷ bs) ≡ up_to b bs
-unfolding all_bits
-up_to-larger most b bs h = go (leb b 1) refl
+-- no element is above 1 where the largest is not
+leb-max : (a b : ℕ) → leb (max a b) 1 ≡ both (leb a 1) (leb b 1)
+leb-max a b = go (leb a 1) refl (leb b 1) refl
   where
-    go : (t : Bool) → leb b 1 ≡ t → both (leb most 1) (both (leb b 1) (all_bits bs)) ≡ both (leb b 1) (all_bits bs)
-    go true e = simp (le-leb most 1 (omega (arith, leb-true b 1 e)))
-    go false e = simp (e, both-no)
+    go : (s : Bool) → leb a 1 ≡ s → (t : Bool) → leb b 1 ≡ t → leb (max a b) 1 ≡ both s t
+    go true p true q = le-leb (max a b) 1 (omega (arith, leb-true a 1 p, leb-true b 1 q))
+    go true p false q = lt-leb (max a b) 1 (omega (arith, leb-false b 1 q))
+    go false p t q = lt-leb (max a b) 1 (omega (arith, leb-false a 1 p))
 
-pub up_to-same : (most b : ℕ) (bs : List ℕ) → b ≤ most → up_to most (b ∷ bs) ≡ up_to most bs
+pub largest-bits : (most : ℕ) (bs : List ℕ) → leb (fold max most bs) 1 ≡ both (leb most 1) (all_bits bs)
 unfolding all_bits
-up_to-same most b bs h = go (leb most 1) refl
-  where
-    go : (t : Bool) → leb most 1 ≡ t → both (leb most 1) (both (leb b 1) (all_bits bs)) ≡ both (leb most 1) (all_bits bs)
-    go true e = simp (le-leb b 1 (omega (arith, leb-true most 1 e)))
-    go false e = simp e
-
-pub up_to-end : (most : ℕ) → up_to most [] ≡ leb most 1
-unfolding all_bits
-up_to-end most = both_yes (leb most 1)
+largest-bits most [] = sym (both_yes (leb most 1))
+largest-bits most (b ∷ bs) =
+    largest-bits (max most b) bs ∙ ap (λ (t : Bool). both t (all_bits bs)) (leb-max most b) ∙ sym (both-both (leb most 1) (leb b 1) (all_bits bs))
 
 -- ---- the bits of a number
 

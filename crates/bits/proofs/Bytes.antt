@@ -6,8 +6,9 @@ use mathlib.Core.List.{List, [], ◌∷◌, ◌++◌, append_assoc}
 use Prim.Native.Nat.{ℕ, zero, suc, ◌+◌, ◌*◌, ◌≤◌, ◌<◌}
 use native.Mathlib.Omega.{arith}
 use lib.Dec.{T}
-use lib.ListN.{length, take, drop, length-append, length-drop}
-use lib.Seq.{take_at, drop_at, take-add, length-take-le}
+use lib.ListN.{length, get_or, take, drop, length-append, length-drop}
+use lib.Seq.{take_at, drop_at, drop-drop, take-add, length-take-le}
+use Rattle.std.specs.Simd.{first_chunks}
 use Rattle.laws.specs.Lists.{same, AllBytes}
 use Rattle.laws.proofs.Tests.{is_true}
 use Rattle.laws.proofs.Lists.{same→eq}
@@ -70,6 +71,15 @@ joined-eights f g back (suc n) bits h e =
     let b = back (take 8 bits) (length-take-le 8 bits (omega arith)) (all_bits-take 8 bits e) in
     let r = joined-eights f g back n (drop 8 bits) (omega (arith, length-drop 8 bits)) (all_bits-drop 8 bits e) in
     ap₂ ◌++◌ b r ∙ sym (ap (λ (m : ℕ). take m bits) k ∙ take-add 8 (8 * n) bits)
+
+-- ---- a list in chunks of n elements
+
+pub chunk-at : {A : Type 0} (n k i : ℕ) (xs : List A) → i < k → get_or (first_chunks n k xs) i [] ≡ take n (drop (n * i) xs)
+chunk-at n zero i xs h = absurd (omega arith)
+chunk-at n (suc k) zero xs h = let e : 0 ≡ n * 0 = omega arith in ap (λ (j : ℕ). take n (drop j xs)) e
+chunk-at n (suc k) (suc i) xs h =
+    let e : n + n * i ≡ n * suc i = omega arith in
+    chunk-at n k i (drop n xs) (omega arith) ∙ ap (take n) (drop-drop (n * i) n xs ∙ ap (λ (j : ℕ). drop j xs) e)
 
 -- ---- bytes as sent
 

@@ -1,7 +1,7 @@
 -- Fields in a row: their bits, rows laid over bytes one after the other, and rows read again.
 -- Assumes nothing.
 use mathlib.Core.Path.{◌≡◌, refl, sym, ap, ap₂, ◌∙◌}
-use mathlib.Core.Bool.{Bool, true}
+use mathlib.Core.Bool.{Bool, true, false}
 use mathlib.Core.List.{List, [], ◌∷◌, ◌++◌, append_assoc, append-nil}
 use Prim.Native.Nat.{ℕ, zero, suc, ◌+◌, ◌*◌, ◌/◌, ◌%◌, ◌^◌, ◌≤◌, ◌<◌}
 use native.Mathlib.Nat.{zero-add, mod-eq_of_lt, lt_of_lt_of_le}
@@ -18,8 +18,8 @@ use Rattle.laws.specs.Lists.{over, AllBytes}
 use Rattle.laws.proofs.Tests.{of-true, both_left, both_right, both_yes}
 use Rattle.bits.specs.Bits.{high_first, high_value, all_bits, eights}
 use Rattle.bits.specs.Field.{bits_of, packed, field_of, spliced, put_field}
-use Rattle.bits.specs.Row.{laid, width_of, all_fit, lay_over, row_at, widths_of, four_row, joined_four}
-use Rattle.bits.specs.declared.reader.Four.{Four}
+use Rattle.bits.specs.Row.{laid, width_of, all_fit, lay_over, row_at, widths_of, four_row, joined_four, one_of}
+use Rattle.bits.specs.declared.row.Four.{Four}
 use Rattle.bits.proofs.Bits.{both-both, all_bits-end, all_bits-append, all_bits-take, all_bits-drop, high_bits, length-high_first, high-append, high-low}
 use Rattle.bits.proofs.Bytes.{length-eights}
 use Rattle.bits.proofs.Fields.{length-bits, bits_are, bits-append, bits-packed, packed-bits, field-there, field-bits}
@@ -233,6 +233,29 @@ module _ (f : Four) (a b c d : ℕ) (fit : all_fit (four_row f a b c d) ≡ true
   four-laid l at =
       let n : at + (a + b + c + d) ≡ at + (a + (b + (c + (d + 0)))) = omega arith in
       ap₂ (λ (x : List ℕ) (k : ℕ). packed (length l) (take at (bits_of l) ++ x ++ drop k (bits_of l))) four-bits n
+
+-- ---- four numbers as one field
+
+module _ (f : Four) (a b c d : ℕ) where
+  pub one-joined : all_fit (four_row f a b c d) ≡ true → one_of f a b c d ≡ joined_four f b c d
+  unfolding one_of
+  one-joined e = simp e
+
+  pub one-wide : all_fit (four_row f a b c d) ≡ false → one_of f a b c d ≡ 2 ^ (a + b + c + d)
+  unfolding one_of
+  one-wide e = simp e
+
+  one-is-fit : (t : Bool) → all_fit (four_row f a b c d) ≡ t → all_fit ((a + b + c + d, one_of f a b c d) ∷ []) ≡ t
+  unfolding all_fit
+  one-is-fit true e = both_yes _ ∙ lt-ltb _ _ (rw (one-joined e) (four-fits f a b c d e))
+  one-is-fit false e = both_yes _ ∙ le-ltb _ _ (rw (one-wide e) (omega arith))
+
+  pub one-fit : all_fit ((a + b + c + d, one_of f a b c d) ∷ []) ≡ all_fit (four_row f a b c d)
+  one-fit = one-is-fit (all_fit (four_row f a b c d)) refl
+
+  pub one-laid : all_fit (four_row f a b c d) ≡ true → laid ((a + b + c + d, one_of f a b c d) ∷ []) ≡ laid (four_row f a b c d)
+  unfolding laid
+  one-laid e = append-nil (high_first (a + b + c + d) (one_of f a b c d)) ∙ ap (high_first (a + b + c + d)) (one-joined e) ∙ four-bits f a b c d e
 
 -- ---- read again
 

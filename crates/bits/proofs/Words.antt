@@ -11,7 +11,7 @@ use lib.Pow.{pow_pos, pow-add, shl_exact, shr_lt, split, high, low, mod-pow-add,
 use lib.Seq.{sets, drop-cons, length-take-le, length-sets, sets-eq}
 use Rattle.laws.specs.Lists.{AllBytes}
 use Rattle.laws.proofs.Lists.{all-bytes, three-parts}
-use Rattle.bits.specs.Bits.{high_first, high_value, joined, eight_of, four_of}
+use Rattle.bits.specs.Bits.{high_first, high_value, joined}
 use Rattle.bits.specs.Field.{bits_of, packed, field_of, spliced, put_field, word_of, bytes_of_word}
 use Rattle.bits.proofs.Bits.{length-high_first, high-append, high-low, high-back, value-high, value-append}
 use Rattle.bits.proofs.Spreading.{places}
@@ -60,73 +60,13 @@ eight-at l s h =
       d (suc (suc (suc (suc (suc (suc (suc s))))))) (omega arith),
     )
 
--- ---- eight bytes in the other order
-
--- eight bytes
+-- each of eight is a byte
 abbrev Small : ℕ → ℕ → ℕ → ℕ → ℕ → ℕ → ℕ → ℕ → Type 0
 Small a b c d e f g h = (a < 256) × (b < 256) × (c < 256) × (d < 256) × (e < 256) × (f < 256) × (g < 256) × (h < 256)
 
 eight-small : (l : List ℕ) → ((i : ℕ) → get_or l i 0 < 256) → (s : ℕ)
     → Small (get_or l s 0) (get_or l (s + 1) 0) (get_or l (s + 2) 0) (get_or l (s + 3) 0) (get_or l (s + 4) 0) (get_or l (s + 5) 0) (get_or l (s + 6) 0) (get_or l (s + 7) 0)
 eight-small l h s = (h s, h (s + 1), h (s + 2), h (s + 3), h (s + 4), h (s + 5), h (s + 6), h (s + 7))
-
--- a byte that stands at bit k
-digit : (k low b up : ℕ) → low < 2 ^ k → b < 256 → {x : ℕ} → x ≡ (up * 256 + b) * 2 ^ k + low → x / 2 ^ k % 256 ≡ b
-digit k low b up small h is = rw (is, high (up * 256 + b) k small) (omega arith)
-
--- a sum of bytes in their places, the first one the lowest, has these bytes
-eight-back : (a b c d e f g h : ℕ) → Small a b c d e f g h
-    → {x : ℕ} → x ≡ a + b * 2 ^ 8 + c * 2 ^ 16 + d * 2 ^ 24 + e * 2 ^ 32 + f * 2 ^ 40 + g * 2 ^ 48 + h * 2 ^ 56 → eight_of x ≡ a ∷ b ∷ c ∷ d ∷ e ∷ f ∷ g ∷ h ∷ []
-unfolding eight_of
-eight-back a b c d e f g h small {x} is =
-    let ea : x % 256 ≡ a = omega arith in
-    let eb : x / 2 ^ 8 % 256 ≡ b = digit 8 a b (c + d * 2 ^ 8 + e * 2 ^ 16 + f * 2 ^ 24 + g * 2 ^ 32 + h * 2 ^ 40) (omega arith) small.1 (omega arith) in
-    let ec : x / 2 ^ 16 % 256 ≡ c = digit 16 (a + b * 2 ^ 8) c (d + e * 2 ^ 8 + f * 2 ^ 16 + g * 2 ^ 24 + h * 2 ^ 32) (omega arith) small.2 (omega arith) in
-    let ed : x / 2 ^ 24 % 256 ≡ d = digit 24 (a + b * 2 ^ 8 + c * 2 ^ 16) d (e + f * 2 ^ 8 + g * 2 ^ 16 + h * 2 ^ 24) (omega arith) small.3 (omega arith) in
-    let ee : x / 2 ^ 32 % 256 ≡ e = digit 32 (a + b * 2 ^ 8 + c * 2 ^ 16 + d * 2 ^ 24) e (f + g * 2 ^ 8 + h * 2 ^ 16) (omega arith) small.4 (omega arith) in
-    let ef : x / 2 ^ 40 % 256 ≡ f = digit 40 (a + b * 2 ^ 8 + c * 2 ^ 16 + d * 2 ^ 24 + e * 2 ^ 32) f (g + h * 2 ^ 8) (omega arith) small.5 (omega arith) in
-    let eg : x / 2 ^ 48 % 256 ≡ g = digit 48 (a + b * 2 ^ 8 + c * 2 ^ 16 + d * 2 ^ 24 + e * 2 ^ 32 + f * 2 ^ 40) g h (omega arith) small.6 (omega arith) in
-    let eh : x / 2 ^ 56 % 256 ≡ h = digit 56 (a + b * 2 ^ 8 + c * 2 ^ 16 + d * 2 ^ 24 + e * 2 ^ 32 + f * 2 ^ 40 + g * 2 ^ 48) h 0 (omega arith) small.7 (omega arith) in
-    rw (ea, eb, ec, ed, ee, ef, eg, eh)
-
--- as the code sums them, the first one the highest
-abbrev sum_of : ℕ → ℕ → ℕ → ℕ → ℕ → ℕ → ℕ → ℕ → ℕ
-sum_of a b c d e f g h = a * 2 ^ 56 % 2 ^ 64 + b * 2 ^ 48 % 2 ^ 64 + (c * 2 ^ 40 % 2 ^ 64 + d * 2 ^ 32 % 2 ^ 64) + (e * 2 ^ 24 % 2 ^ 64 + f * 2 ^ 16 % 2 ^ 64 + (g * 2 ^ 8 % 2 ^ 64 + h))
-
-pub sum_fits : (a b c d e f g h : ℕ) → Small a b c d e f g h → sum_of a b c d e f g h < 2 ^ 64
-sum_fits a b c d e f g h small = omega arith
-
-sum_is : (a b c d e f g h : ℕ) → Small a b c d e f g h → sum_of a b c d e f g h ≡ word_of (a ∷ b ∷ c ∷ d ∷ e ∷ f ∷ g ∷ h ∷ []) 0
-unfolding word_of
-sum_is a b c d e f g h small = omega arith
-
-word_back : (a b c d e f g h : ℕ) → Small a b c d e f g h → eight_of (word_of (a ∷ b ∷ c ∷ d ∷ e ∷ f ∷ g ∷ h ∷ []) 0) ≡ h ∷ g ∷ f ∷ e ∷ d ∷ c ∷ b ∷ a ∷ []
-unfolding word_of
-word_back a b c d e f g h small = eight-back h g f e d c b a (omega arith) (omega arith)
-
-pub swap_is : (z : ℕ) → z < 2 ^ 64
-    → sum_of (z % 256) (z / 2 ^ 8 % 256) (z / 2 ^ 16 % 256) (z / 2 ^ 24 % 256) (z / 2 ^ 32 % 256) (z / 2 ^ 40 % 256) (z / 2 ^ 48 % 256) (z / 2 ^ 56) ≡ word_of (eight_of z) 0
-unfolding eight_of
-swap_is z fits =
-    let last : z / 2 ^ 56 % 256 ≡ z / 2 ^ 56 = omega arith in
-    rw last (sum_is _ _ _ _ _ _ _ _ (omega arith))
-
--- the bytes of a number with its bytes in the other order
-pub swap_bytes : (z : ℕ) → eight_of (word_of (eight_of z) 0) ≡ bytes_of_word z
-unfolding eight_of bytes_of_word
-swap_bytes z = word_back _ _ _ _ _ _ _ _ (omega arith)
-
--- eight bytes loaded with the first one lowest, four and four, and put into the other order
-pub swap-loaded : (l : List ℕ) → ((i : ℕ) → get_or l i 0 < 256) → (s : ℕ) {low high : ℕ} → low ≡ four_of l s → high ≡ four_of l (s + 4)
-    → word_of (eight_of (low + high * 2 ^ 32 % 2 ^ 64)) 0 ≡ word_of l s
-unfolding four_of word_of
-swap-loaded l bytes s {low} {high} el eh =
-    let p : s + 4 + 1 ≡ s + 5 = omega arith in
-    let q : s + 4 + 2 ≡ s + 6 = omega arith in
-    let r : s + 4 + 3 ≡ s + 7 = omega arith in
-    let eh' : high ≡ get_or l (s + 4) 0 + get_or l (s + 5) 0 * 256 + get_or l (s + 6) 0 * 65536 + get_or l (s + 7) 0 * 16777216 = rw (p, q, r) at eh in
-    let small = eight-small l bytes s in
-    ap (λ (t : List ℕ). word_of t 0) (eight-back _ _ _ _ _ _ _ _ small (omega arith))
 
 -- ---- the bits of eight bytes
 
@@ -145,12 +85,6 @@ replaced w r a v = a - a / 2 ^ r % 2 ^ w * 2 ^ r + v * 2 ^ r
 
 digits : (w r a : ℕ) → a ≡ (a / 2 ^ r / 2 ^ w * 2 ^ w + a / 2 ^ r % 2 ^ w) * 2 ^ r + a % 2 ^ r
 digits w r a = sym (ap (λ (h : ℕ). h * 2 ^ r + a % 2 ^ r) (split (a / 2 ^ r) w) ∙ split a r)
-
-middle-le : (w r a : ℕ) → a / 2 ^ r % 2 ^ w * 2 ^ r ≤ a
-middle-le w r a = go (a / 2 ^ r / 2 ^ w * 2 ^ w) (a / 2 ^ r % 2 ^ w) (2 ^ r) (a % 2 ^ r) (digits w r a)
-  where
-    go : (h m p k : ℕ) → a ≡ (h + m) * p + k → m * p ≤ a
-    go h m p k e = omega arith
 
 replaced-is : (w r a v : ℕ) → replaced w r a v ≡ (a / 2 ^ r / 2 ^ w * 2 ^ w + v) * 2 ^ r + a % 2 ^ r
 unfolding replaced
@@ -203,17 +137,11 @@ module _ {len s at w : ℕ} (here : Holds len s at w) where
   mask : 1 * 2 ^ w % 2 ^ 64 ≡ 2 ^ w
   mask = shl_exact 1 w 64 (omega arith) (omega (arith, here.narrow)) ∙ one-mul (2 ^ w)
 
-  pub mask-some : 0 < 1 * 2 ^ w % 2 ^ 64
-  mask-some = rw mask (pow_pos w)
-
   up-exact : (v : ℕ) → v < 2 ^ w → v * 2 ^ over s at w % 2 ^ 64 ≡ v * 2 ^ over s at w
   up-exact v small = shl_exact w (over s at w) 64 small (omega (arith, counted))
 
   old-exact : (a : ℕ) → old_part s at w a ≡ a / 2 ^ over s at w % 2 ^ w * 2 ^ over s at w
   old-exact a = rw mask (up-exact (a / 2 ^ over s at w % 2 ^ w) (mod-lt (a / 2 ^ over s at w) (pow_pos w)))
-
-  pub old-le : (a : ℕ) → old_part s at w a ≤ a
-  old-le a = rw (old-exact a) (middle-le w (over s at w) a)
 
   as_code : (a v : ℕ) → v < 2 ^ w → new_word s at w a v ≡ replaced w (over s at w) a v
   unfolding replaced

@@ -1,6 +1,6 @@
 -- Bits of numbers as lists of 0 and 1, and bytes as they are sent.
 -- Assumes nothing.
-use Rattle.std.specs.Prelude.{ℕ, zero, suc, ◌+◌, ◌*◌, ◌/◌, ◌%◌, ◌^◌, Bool, true, List, [], ◌∷◌, ◌++◌, leb, get_or, take, drop}
+use Rattle.std.specs.Prelude.{ℕ, zero, suc, ◌+◌, ◌*◌, ◌/◌, ◌%◌, ◌^◌, Bool, true, List, [], ◌∷◌, ◌++◌, leb, take, drop}
 use Rattle.laws.specs.Tests.{both}
 
 -- the low n bits of v, the lowest first
@@ -55,7 +55,3 @@ bytes_of n bits = eights low_value n bits
 unfoldable pub eight_of : ℕ → List ℕ
 eight_of z =
     z % 256 ∷ z / 2 ^ 8 % 256 ∷ z / 2 ^ 16 % 256 ∷ z / 2 ^ 24 % 256 ∷ z / 2 ^ 32 % 256 ∷ z / 2 ^ 40 % 256 ∷ z / 2 ^ 48 % 256 ∷ z / 2 ^ 56 % 256 ∷ []
-
--- the number of four bytes from place at on, the first one the lowest
-unfoldable pub four_of : List ℕ → ℕ → ℕ
-four_of l at = get_or l at 0 + get_or l (at + 1) 0 * 256 + get_or l (at + 2) 0 * 65536 + get_or l (at + 3) 0 * 16777216

@@ -1,6 +1,6 @@
 -- Fields: numbers at a bit position of a list of bytes, each from the high bit on.
 -- Assumes nothing.
-use Rattle.std.specs.Prelude.{ℕ, ◌+◌, ◌-◌, ◌*◌, ◌/◌, ◌%◌, ◌^◌, ◌≤◌, min, List, [], ◌∷◌, ◌++◌, length, get_or, take, drop}
+use Rattle.std.specs.Prelude.{ℕ, ◌+◌, ◌-◌, ◌*◌, ◌/◌, ◌%◌, ◌^◌, min, List, [], ◌∷◌, ◌++◌, length, get_or, take, drop}
 use Rattle.bits.specs.Bits.{high_first, high_value, joined, eights}
 
 -- the bits of bytes, each from the high bit on
@@ -37,14 +37,3 @@ bytes_of_word z =
 -- where the eight bytes start that hold a field
 abbrev pub window_of : ℕ → ℕ → ℕ
 window_of len at = min (at / 8) (len - 8)
-
--- four widths of fields that can be read
-pub record Widths (a b c d : ℕ) : Type 0 where
-  pub some-a : 1 ≤ a
-  pub some-b : 1 ≤ b
-  pub some-c : 1 ≤ c
-  pub some-d : 1 ≤ d
-  pub few-a : a ≤ 32
-  pub few-b : b ≤ 32
-  pub few-c : c ≤ 32
-  pub few-d : d ≤ 32

@@ -2,35 +2,16 @@
 // specs/Field.antt says, and writing one, of as many as eight bytes hold, leaves every other bit as it was.
 ghost use Rattle.std.specs.Prelude.{◌≡◌, ◌+◌, ◌*◌, ◌%◌, ◌^◌, ◌≤◌, ◌<◌, length};
 ghost use Rattle.std.proofs.lemmas.List.Edits.{sets};
-ghost use Rattle.bits.specs.Bits.{eight_of};
 ghost use Rattle.bits.specs.Field.{field_of, put_field, word_of, bytes_of_word, window_of};
 
-use crate::{four_at, store_eight};
+use crate::chunk_at;
 
-// The eight bytes of a number in the other order. A compiler knows it as one instruction.
-fn swapped(z: u64) -> u64
-    ensures { result ≡ word_of (eight_of z) 0 }
-{
-    let a = (z % 256) << 56;
-    let b = ((z >> 8) % 256) << 48;
-    let c = ((z >> 16) % 256) << 40;
-    let d = ((z >> 24) % 256) << 32;
-    let e = ((z >> 32) % 256) << 24;
-    let f = ((z >> 40) % 256) << 16;
-    let g = ((z >> 48) % 256) << 8;
-    let h = z >> 56;
-    ((a + b) + (c + d)) + ((e + f) + (g + h))
-}
-
-// The eight bytes from place s on as a number, the first one the highest. They are loaded with the first one lowest, which a compiler makes one
-// load of early enough for all of this to go into its caller.
+// The eight bytes from place s on as a number, the first one the highest.
 fn word_at(bytes: &[u8], s: usize) -> u64
     requires { s + 8 ≤ length bytes.now }
     ensures { result ≡ word_of bytes.now s }
 {
-    let low = four_at(bytes, s) as u64;
-    let high = four_at(bytes, s + 4) as u64;
-    swapped(low + (high << 32))
+    u64::from_be_bytes(chunk_at(bytes, s))
 }
 
 // The other way.
@@ -38,7 +19,7 @@ fn put_word(out: &mut [u8], s: usize, z: u64)
     requires { s + 8 ≤ length out.old }
     ensures { out.new ≡ sets out.old s (bytes_of_word z) }
 {
-    store_eight(out, s, swapped(z));
+    out[s..s + 8].copy_from_slice(&z.to_be_bytes());
 }
 
 // Where the eight bytes start that hold a field: with its first byte, or, near the end, eight bytes before the end.
@@ -46,11 +27,7 @@ fn window(len: usize, at: usize) -> usize
     requires { 8 ≤ len }
     ensures { result ≡ window_of len at }
 {
-    let first = at / 8;
-    if first < len - 8 {
-        return first;
-    }
-    len - 8
+    (at / 8).min(len - 8)
 }
 
 // The field of so many bits from bit at on.

@@ -9,7 +9,7 @@ pub mod turn;
 
 ghost use Rattle.std.specs.Prelude.{◌≡◌, ◌+◌, ◌≤◌, true, length, take, drop};
 ghost use Rattle.std.proofs.lemmas.List.Edits.{sets};
-ghost use Rattle.bits.specs.Bits.{high_first, low_value, all_bits, four_of, eight_of};
+ghost use Rattle.bits.specs.Bits.{high_first, low_value, all_bits, eight_of};
 
 // The bits of a byte as the eight bytes of a number, the highest bit in the lowest byte. The factor, to which the shift adds the place 63,
 // brings bit 7 - j to place 8 j + 7, and no two of its products meet. A compiler makes one product of the two.
@@ -25,68 +25,44 @@ pub fn store_eight(out: &mut [u8], at: usize, z: u64)
     requires { at + 8 ≤ length out.old }
     ensures { out.new ≡ sets out.old at (eight_of z) }
 {
-    out[at] = (z % 256) as u8;
-    out[at + 1] = ((z >> 8) % 256) as u8;
-    out[at + 2] = ((z >> 16) % 256) as u8;
-    out[at + 3] = ((z >> 24) % 256) as u8;
-    out[at + 4] = ((z >> 32) % 256) as u8;
-    out[at + 5] = ((z >> 40) % 256) as u8;
-    out[at + 6] = ((z >> 48) % 256) as u8;
-    out[at + 7] = ((z >> 56) % 256) as u8;
+    out[at..at + 8].copy_from_slice(&z.to_le_bytes());
 }
 
 // Is every byte 0 or 1? Without a way out of the loop, so that it goes by many bytes at a time.
 fn all_small(bits: &[u8]) -> bool
     ensures { result ≡ all_bits bits.now }
 {
-    let mut most: u8 = 0;
-    let mut i = 0;
-    while i < bits.len() {
-        let b = bits[i];
-        i += 1;
-        if b > most {
-            most = b;
-        }
-    }
-    most <= 1
+    bits.iter().fold(0, |most: u8, b| most.max(*b)) <= 1
 }
 
 // The same by blocks of 32 bytes, the last of which may overlap, so that no bytes are over and go one by one.
 pub fn are_bits(bits: &[u8]) -> bool
     ensures { result ≡ all_bits bits.now }
 {
-    let n = bits.len();
-    if n < 32 {
+    let Some(last) = bits.last_chunk::<32>() else {
         return all_small(bits);
-    }
-    let whole = n / 32 * 32;
-    let last = n - 32;
-    if all_small(&bits[..whole]) {
-        return all_small(&bits[last..]);
-    }
-    false
+    };
+    all_small(&bits[..bits.len() / 32 * 32]) && all_small(last)
 }
 
-// Four bytes as those of a number, the first one the lowest. A compiler makes one load of them.
-pub fn four_at(bytes: &[u8], at: usize) -> u32
-    requires { at + 4 ≤ length bytes.now }
-    ensures { result ≡ four_of bytes.now at }
+// So many bytes from place at on. By a copy, which a compiler makes one load of: `first_chunk` would test once more that they are there.
+fn chunk_at<const N: usize>(bytes: &[u8], at: usize) -> [u8; N]
+    requires { at + N ≤ length bytes.now }
+    ensures { result ≡ take N (drop at bytes.now) }
 {
-    let a = bytes[at] as u32;
-    let b = bytes[at + 1] as u32;
-    let c = bytes[at + 2] as u32;
-    let d = bytes[at + 3] as u32;
-    a + b * 256 + c * 65536 + d * 16777216
+    let mut chunk = [0; N];
+    chunk.copy_from_slice(&bytes[at..at + N]);
+    chunk
 }
 
-// The number that eight bits make, the lowest first. The factor brings each of them to its place in the fourth byte, and no two of its
-// products meet.
+// The number that eight bits make, the lowest first. The factor brings bit j from place 8 j to place 56 + j, no two of its products meet, and
+// the others stay below or leave at the top.
 pub fn byte_at(bits: &[u8], at: usize) -> u8
     requires { (all_bits bits.now ≡ true) × (at + 8 ≤ length bits.now) }
     ensures { result ≡ low_value (take 8 (drop at bits.now)) }
 {
-    let both = four_at(bits, at) + four_at(bits, at + 4) * 16;
-    ((both as u64) * 0x01020408 / 16777216 % 256) as u8
+    let eight = u64::from_le_bytes(chunk_at(bits, at));
+    (eight.wrapping_mul(0x0102040810204080) >> 56) as u8
 }
 
 // The number that 32 bits make, the lowest first.
@@ -94,9 +70,10 @@ pub fn word_at(bits: &[u8], at: usize) -> u64
     requires { (all_bits bits.now ≡ true) × (at + 32 ≤ length bits.now) }
     ensures { result ≡ low_value (take 32 (drop at bits.now)) }
 {
-    let a = byte_at(bits, at) as u64;
-    let b = byte_at(bits, at + 8) as u64;
-    let c = byte_at(bits, at + 16) as u64;
-    let d = byte_at(bits, at + 24) as u64;
-    (a + b * 256) + (c * 65536 + d * 16777216)
+    u32::from_le_bytes([
+        byte_at(bits, at),
+        byte_at(bits, at + 8),
+        byte_at(bits, at + 16),
+        byte_at(bits, at + 24),
+    ]) as u64
 }

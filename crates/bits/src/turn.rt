@@ -3,8 +3,8 @@ ghost use Rattle.std.specs.Prelude.{◌≡◌};
 ghost use Rattle.laws.specs.Tables.{byte_table};
 ghost use Rattle.bits.specs.Bits.{turned};
 
-// Each entry is its index with the eight bits reversed.
-const TURNED: [u8; 256] = [
+// Each entry is its index with the eight bits reversed. No constant, since that is laid out anew by every function that names it.
+static TURNED: [u8; 256] = [
     0, 128, 64, 192, 32, 160, 96, 224, 16, 144, 80, 208, 48, 176, 112, 240, 8, 136, 72, 200, 40,
     168, 104, 232, 24, 152, 88, 216, 56, 184, 120, 248, 4, 132, 68, 196, 36, 164, 100, 228, 20,
     148, 84, 212, 52, 180, 116, 244, 12, 140, 76, 204, 44, 172, 108, 236, 28, 156, 92, 220, 60,
@@ -20,16 +20,8 @@ const TURNED: [u8; 256] = [
     239, 31, 159, 95, 223, 63, 191, 127, 255,
 ];
 
-// The table, for a caller that turns many bytes: a constant is laid out anew by every function that names it.
-pub fn turns() -> [u8; 256]
-    ensures { result ≡ byte_table turned }
-{
-    TURNED
-}
-
-pub fn turn(turns: &[u8; 256], b: u8) -> u8
-    requires { turns.now ≡ byte_table turned }
+pub fn turn(b: u8) -> u8
     ensures { result ≡ turned b }
 {
-    turns[b as usize]
+    TURNED[b as usize]
 }

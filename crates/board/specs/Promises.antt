@@ -2,8 +2,8 @@
 -- Assumes nothing.
 use Rattle.std.specs.Prelude.{ℕ, ◌≡◌, List, [], ◌∷◌, ℤ, length}
 use Rattle.laws.specs.Exactly.{Refuses}
+use Rattle.numbers.specs.Numbers.{number_given}
 use Rattle.packet.specs.Packet as packet
-use Rattle.message.specs.Message as message
 use Rattle.board.specs.Face.{WritesC, ReadsC}
 use Rattle.board.specs.Messages.{list_tests, said_tests, ReadsMessageC, WritesMessageC}
 
@@ -12,23 +12,23 @@ use Rattle.board.specs.Messages.{list_tests, said_tests, ReadsMessageC, WritesMe
 abbrev pub PacketWriteExactly : Type 0
 PacketWriteExactly =
     (payload bits : List ℕ) (count r : ℕ) (bits' : List ℕ) (count' : ℕ) → WritesC payload bits count r bits' count'
-    → Refuses (11 ∷ 12 ∷ []) packet.written_number (packet.write_tests payload (length bits)) r ((bits' ≡ bits) × (count' ≡ count))
+    → Refuses (11 ∷ 12 ∷ []) number_given (packet.write_tests payload (length bits)) r ((bits' ≡ bits) × (count' ≡ count))
 
 abbrev pub PacketReadExactly : Type 0
 PacketReadExactly =
     (bits payload : List ℕ) (count r : ℕ) (payload' : List ℕ) (count' : ℕ) → ReadsC bits payload count r payload' count'
-    → Refuses (11 ∷ 12 ∷ 10 ∷ 13 ∷ 14 ∷ 15 ∷ 16 ∷ []) packet.received_number (packet.read_tests bits (length payload)) r
+    → Refuses (11 ∷ 12 ∷ 10 ∷ 13 ∷ 14 ∷ 15 ∷ 16 ∷ []) number_given (packet.read_tests bits (length payload)) r
     ((payload' ≡ payload) × (count' ≡ count))
 
 abbrev pub MessageReadExactly : Type 0
 MessageReadExactly =
     (l : List ℕ) (fields : List ℤ) (count r : ℕ) (fields' : List ℤ) (count' : ℕ) → ReadsMessageC l fields count r fields' count'
-    → Refuses (12 ∷ 17 ∷ 18 ∷ []) message.received_number (list_tests l (length fields)) r ((fields' ≡ fields) × (count' ≡ count))
+    → Refuses (12 ∷ 17 ∷ 18 ∷ []) number_given (list_tests l (length fields)) r ((fields' ≡ fields) × (count' ≡ count))
 
 abbrev pub MessageWriteExactly : Type 0
 MessageWriteExactly =
     (fields : List ℤ) (out : List ℕ) (r : ℕ) (out' : List ℕ) → WritesMessageC fields out r out'
-    → Refuses (12 ∷ 17 ∷ 18 ∷ 19 ∷ []) message.written_number (said_tests fields (length out)) r (out' ≡ out)
+    → Refuses (12 ∷ 17 ∷ 18 ∷ 19 ∷ []) number_given (said_tests fields (length out)) r (out' ≡ out)
 
 -- ---- one answer: two numbers and contents of everything lent that meet the contract at the same input are equal
 

@@ -5,33 +5,35 @@
 
 pub mod messages;
 
-ghost use Rattle.board.specs.Face.{WritesC, ReadsC};
+ghost use Rattle.std.specs.Prelude.{◌≡◌, ◌^◌, ◌<◌, IfOk};
+ghost use Rattle.numbers.specs.Numbers.{number_given};
+ghost use Rattle.board.specs.Face.{count_given, WritesC, ReadsC};
 
-use numbers::number;
-use packet::{Packed, Unpacked, read, write};
+use numbers::Refusal;
+use packet::{read, write};
+
+// Answers with the number given back, and sets the count where there is one.
+fn tell(answer: Result<usize, Refusal>, count: &mut u32) -> u32
+    requires { IfOk answer (λ n. n < 2 ^ 32) }
+    ensures { (result ≡ number_given answer) × (count.new ≡ count_given answer count.old) }
+{
+    match answer {
+        Ok(n) => {
+            *count = n as u32;
+            0
+        }
+        Err(r) => u32::from(r),
+    }
+}
 
 pub fn qs_packet_write(payload: &[u8], bits: &mut [u8], count: &mut u32) -> u32
     ensures { WritesC payload.now bits.old count.old result bits.new count.new }
 {
-    let answer = write(payload, bits);
-    match answer {
-        Packed::Bits(n) => {
-            *count = n as u32;
-            0
-        }
-        Packed::Refused(r) => number(r),
-    }
+    tell(write(payload, bits), count)
 }
 
 pub fn qs_packet_read(bits: &[u8], payload: &mut [u8], count: &mut u32) -> u32
     ensures { ReadsC bits.now payload.old count.old result payload.new count.new }
 {
-    let answer = read(bits, payload);
-    match answer {
-        Unpacked::Bytes(n) => {
-            *count = n as u32;
-            0
-        }
-        Unpacked::Refused(r) => number(r),
-    }
+    tell(read(bits, payload), count)
 }

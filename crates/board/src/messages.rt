@@ -4,23 +4,22 @@ ghost use Rattle.board.specs.Messages.{ReadsMessageC, WritesMessageC};
 use limits::{LIST_PLACES, MESSAGE};
 use listing::message_in;
 use listing::putting::list;
-use message::reading::{Head, head_of};
-use message::{Written, write};
-use numbers::{Refusal, number};
+use message::reading::head_of;
+use message::write;
+use numbers::Refusal;
 
 pub fn qs_message_read(message: &[u8], fields: &mut [i32], count: &mut u32) -> u32
     ensures { ReadsMessageC message.now fields.old count.old result fields.new count.new }
 {
     if fields.len() < LIST_PLACES {
-        return number(Refusal::NoRoom);
+        return Refusal::NoRoom.into();
     }
-    let first = head_of(message);
-    match first {
-        Head::Known(h) => {
-            *count = list(message, h, fields);
+    match head_of(message) {
+        Ok(head) => {
+            *count = list(head, fields);
             0
         }
-        Head::Refused(r) => number(r),
+        Err(unread) => u32::from(unread),
     }
 }
 
@@ -28,14 +27,13 @@ pub fn qs_message_write(fields: &[i32], message: &mut [u8]) -> u32
     ensures { WritesMessageC fields.now message.old result message.new }
 {
     if message.len() < MESSAGE {
-        return number(Refusal::NoRoom);
+        return Refusal::NoRoom.into();
     }
     if fields.len() < LIST_PLACES {
-        return number(Refusal::MessageLength);
+        return Refusal::MessageLength.into();
     }
-    let answer = write(message_in(fields), message);
-    match answer {
-        Written::Done => 0,
-        Written::Refused(r) => number(r),
+    match write(message_in(fields), message) {
+        Ok(()) => 0,
+        Err(unwritten) => u32::from(unwritten),
     }
 }

@@ -3,7 +3,7 @@
 use mathlib.Core.Path.{◌≡◌, refl, sym, ap, ◌∙◌}
 use mathlib.Core.Bool.{false}
 use mathlib.Core.List.{List}
-use Prim.Native.Nat.{ℕ, ◌-◌, ◌<◌}
+use Prim.Native.Nat.{ℕ, ◌-◌, ◌≤◌, ◌<◌}
 use native.Mathlib.Decide.{ℕ_discrete, dec_lt}
 use native.Mathlib.Omega.{arith}
 use borrow.Author.Tests.{eq-eqb, ne_eqb}
@@ -12,24 +12,10 @@ use Rattle.laws.proofs.Tests.{pick-has}
 use Rattle.limits.specs.Limits.{records}
 use Rattle.book.specs.declared.Counts.{Counts}
 use Rattle.book.specs.declared.Handing.{Handing}
-use Rattle.book.specs.Book.{Book, ours, is_record, raised, lowered, wide, alter, book_of, put_at, counts_by, tallies_by, followed, Puts, Gives}
+use Rattle.book.specs.Book.{Book, ours, is_record, raised, lowered, wide, alter, book_of, put_at, mark_at, free_at, counts_by, tallies_by, followed, Puts, Gives}
 use Rattle.book.proofs.Holders.{is-record, nobody-has-none, others-have-none}
+use Rattle.book.proofs.Steps.{kept-own, kept-other, mark-kept, mark-other, free-held, free_other}
 use Rattle.book.proofs.Wide.{alter_free, alter-record, alter-own, alter-none}
-
--- ---- one count, v being the new number
-
-module _ (f : ℕ → ℕ) (c : Counts) (h v : ℕ) where
-  pub count-nobody : h ≡ 0 → v ≡ f c.free → ◌≡◌ {A = Counts} (record { free = v; own = c.own }) (counts_by f c h)
-  unfolding counts_by
-  count-nobody e p = rw (eq-eqb h 0 e, p)
-
-  pub count-ours : h ≡ ours → v ≡ f c.own → ◌≡◌ {A = Counts} (record { free = c.free; own = v }) (counts_by f c h)
-  unfolding counts_by
-  count-ours e p = rw (ne_eqb h 0 (λ z. omega arith), eq-eqb h ours e, p)
-
-pub count-other : (f : ℕ → ℕ) (c : Counts) (h : ℕ) → (h ≡ 0 → ⊥) → (h ≡ ours → ⊥) → c ≡ counts_by f c h
-unfolding counts_by
-count-other f c h n m = rw (ne_eqb h 0 n, ne_eqb h ours m)
 
 -- ---- one tally
 
@@ -89,10 +75,27 @@ unfolding tallies_by
 no-record-follows t p e f = rw (e, f)
 
 -- nothing is done, by f neither
-pub puts-nothing : (f : Book → Book) (s : List ℕ) (c : Counts) → ((b : Book) → b.slots ≡ s → b ≡ f b) → Puts f s c (record { counts = c; old = 0; new = 0 }) s
-puts-nothing f s c same t many =
-    let p : Handing = record { counts = c; old = 0; new = 0 } in
-    ap (λ (u : List ℕ). book_of s u c) (no-record-follows t p (nobody-has-none 0 refl) (nobody-has-none 0 refl)) ∙ same (book_of s t c) refl
+nothing : (f : Book → Book) (s : List ℕ) (c : Counts) (p : Handing) (h : ℕ) → p ≡ record { counts = c; old = 0; new = 0 }
+    → ((b : Book) → b.slots ≡ s → b ≡ f b) → Puts f s c p s × (p.new ≤ h)
+nothing f s c p h e same =
+    rw e (
+      λ t many. ap (λ (u : List ℕ). book_of s u c) (no-record-follows t (record { counts = c; old = 0; new = 0 }) (nobody-has-none 0 refl) (nobody-has-none 0 refl)) ∙ same (book_of s t c) refl,
+      omega arith,
+    )
+
+-- a mark of h, and a freeing of h, by who holds the place: p is what was done to it
+module _ (s : List ℕ) (c : Counts) (p : Handing) (at h : ℕ) where
+  pub mark-left : p ≡ record { counts = c; old = 0; new = 0 } → get_or s at 0 ≡ ours → Puts (λ b. mark_at b at h) s c p s × (p.new ≤ h)
+  mark-left e own = nothing (λ b. mark_at b at h) s c p h e (λ b i. mark-kept b at h (kept-own _ (ap (λ (l : List ℕ). get_or l at 0) i ∙ own)))
+
+  pub mark-put : {s' : List ℕ} → Puts (λ b. put_at b at h) s c p s' → (get_or s at 0 ≡ ours → ⊥) → Puts (λ b. mark_at b at h) s c p s'
+  mark-put d other t many = d t many ∙ mark-other _ _ _ (kept-other _ other)
+
+  pub free-left : p ≡ record { counts = c; old = 0; new = 0 } → (get_or s at 0 ≡ h → ⊥) → Puts (λ b. free_at b at h) s c p s × (p.new ≤ h)
+  free-left e other = nothing (λ b. free_at b at h) s c p h e (λ b i. free_other b at h (λ z. other (ap (λ (l : List ℕ). get_or l at 0) (sym i) ∙ z)))
+
+  pub free-put : {s' : List ℕ} → Puts (λ b. put_at b at 0) s c p s' → get_or s at 0 ≡ h → Puts (λ b. free_at b at h) s c p s'
+  free-put d held t many = d t many ∙ free-held _ _ _ held
 
 -- ours becomes nobody's
 pub gives_up : (s : List ℕ) (c r : Counts) (at : ℕ) → get_or s at 0 ≡ ours → r ≡ counts_by raised (counts_by lowered c ours) 0

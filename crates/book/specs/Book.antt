@@ -1,6 +1,6 @@
 -- The slot book: what a mark, a freeing and a release do to it.
 -- Assumes nothing.
-use Rattle.std.specs.Prelude.{◌≡◌, ℕ, ◌+◌, ◌-◌, ◌%◌, min, max, Bool, true, false, List, [], ◌∷◌, ◌++◌, length, get_or, set, take, drop, eqb, ltb}
+use Rattle.std.specs.Prelude.{◌≡◌, ℕ, ◌+◌, ◌-◌, ◌%◌, min, max, Bool, List, [], ◌∷◌, ◌++◌, length, get_or, set, take, drop, eqb, ltb}
 use Rattle.laws.specs.Tests.{pick, both}
 use Rattle.laws.specs.Loops.{upto}
 use Rattle.limits.specs.Limits.{slot_times, records}
@@ -29,10 +29,6 @@ raised x = max x (min (x + 1) slot_times)
 
 abbrev pub lowered : ℕ → ℕ
 lowered x = x - 1
-
-abbrev pub step_of : Bool → ℕ → ℕ
-step_of true = raised
-step_of false = lowered
 
 -- the tallies of all holders in one list, by their numbers: the free count, the records' tallies, the own tally
 abbrev pub wide : Counts → List ℕ → List ℕ
@@ -102,6 +98,10 @@ unfoldable pub counts_by : (ℕ → ℕ) → Counts → ℕ → Counts
 counts_by f c h =
     pick (eqb h 0) (record { free = f c.free; own = c.own })
     (pick (eqb h ours) (record { free = c.free; own = f c.own }) c)
+
+-- the same by a step that is known by what it may give, whatever it computes
+abbrev pub CountsBy : (ℕ → ℕ → Type 0) → Counts → ℕ → Counts → Type 0
+CountsBy gives c h d = (f : ℕ → ℕ) → ((x y : ℕ) → gives x y → y ≡ f x) → d ≡ counts_by f c h
 
 -- the tally of the holder h changed by f where h is a record
 unfoldable pub tallies_by : (ℕ → ℕ) → List ℕ → ℕ → List ℕ

@@ -16,7 +16,8 @@ use plan::Plan;
 use ship::Ship;
 use tally::handed;
 
-// A holder is none, one of the records by its number, from 1 on, or we ourselves.
+// A holder is none, one of the records by its number, from 1 on, or we ourselves: a number and not an enum, since the caller, also one in C, lends the list of
+// holders and finds these numbers in it, and tallies stand in one list by them (`wide` of specs/Book.antt).
 pub const NONE: u16 = 0;
 
 pub const OWN: u16 = RECORDS as u16 + 1;
@@ -24,7 +25,8 @@ pub const OWN: u16 = RECORDS as u16 + 1;
 // All slot times, as a count is.
 const ALL: u16 = SLOT_TIMES as u16;
 
-// The slot times that nobody holds, and those that are ours.
+// The slot times that nobody holds, and those that are ours. They go beside the book and not in one struct with it: the list is lent, and the counts come by
+// value in a watch that the caller keeps.
 #[derive(Clone, Copy)]
 pub struct Counts {
     pub free: u16,
@@ -46,7 +48,8 @@ pub struct Watch {
     pub ship: Ship,
 }
 
-// What was done to a place: the counts after it, who has lost it and who has got it. Both are none where nothing was done.
+// What was done to a place: the counts after it, who has lost it and who has got it. Both are none where nothing was done: nobody has no record, so that
+// whoever follows needs no case for it.
 #[derive(Clone, Copy)]
 pub struct Handing {
     pub counts: Counts,
@@ -55,38 +58,32 @@ pub struct Handing {
 }
 
 // Whether a holder has a record.
+#[tactic(auto, unfolding(crate::specs::Book::is_record))]
 pub fn is_record(h: u16) -> bool
     ensures { result ≡ is_record h }
 {
-    if h == NONE {
-        return false;
-    }
-    h < OWN
+    NONE < h && h < OWN
 }
 
-// The place of a holder's record; the first one's for a holder without.
+// The place of a holder's record; the first one's for a holder without. No Option: what follows a holder without leaves that record as it is.
+#[tactic(auto, unfolding(crate::specs::Book::is_record, crate::specs::Book::record_at))]
 pub fn record_of(h: u16) -> usize
     ensures { result ≡ record_at h }
 {
-    if is_record(h) {
-        return (h - 1) as usize;
-    }
-    0
+    if is_record(h) { usize::from(h - 1) } else { 0 }
 }
 
 // A new watch: now is slot 0, nothing is held, no plan, our ship unknown.
 pub fn new_watch() -> Watch
     ensures { result ≡ new_watch }
 {
-    let plan = Plan::none();
-    let ship = ship::unknown();
     Watch {
         present: 0,
         channel: Channel {
             counts: Counts { free: ALL, own: 0 },
-            plan,
+            plan: Plan::none(),
         },
-        ship,
+        ship: ship::unknown(),
     }
 }
 
@@ -103,22 +100,19 @@ pub fn step_on(p: usize) -> usize
     requires { p < slot_times }
     ensures { result ≡ (p + 1) % slot_times }
 {
-    if p + 1 == SLOT_TIMES {
-        return 0;
-    }
-    p + 1
+    (p + 1) % SLOT_TIMES
 }
 
 // The place goes to the holder h, whoever holds it.
+#[tactic(auto, using(crate::proofs::Following::puts))]
 pub fn put(book: &mut [u16], c: Counts, at: usize, h: u16) -> Handing
     requires { at < length book.old }
     ensures { Puts (λ b. put_at b at h) book.old c result book.new × (result.old ≡ get_or book.old at 0) × (result.new ≡ h) }
 {
     let old = book[at];
     book[at] = h;
-    let counts = handed(c, old, h);
     Handing {
-        counts,
+        counts: handed(c, old, h),
         old,
         new: h,
     }
@@ -140,8 +134,7 @@ pub fn mark(book: &mut [u16], c: Counts, at: usize, h: u16) -> Handing
     requires { at < length book.old }
     ensures { Puts (λ b. mark_at b at h) book.old c result book.new × (result.new ≤ h) }
 {
-    let old = book[at];
-    if old == OWN {
+    if book[at] == OWN {
         return left_alone(c);
     }
     put(book, c, at, h)
@@ -152,33 +145,22 @@ pub fn free(book: &mut [u16], c: Counts, at: usize, h: u16) -> Handing
     requires { at < length book.old }
     ensures { Puts (λ b. free_at b at h) book.old c result book.new × (result.new ≤ h) }
 {
-    let old = book[at];
-    if old == h {
+    if book[at] == h {
         return put(book, c, at, NONE);
     }
     left_alone(c)
 }
 
-// One place is freed if it is ours: no record has a tally of it.
-fn give_up(book: &mut [u16], c: Counts, at: usize) -> Counts
-    requires { at < length book.old }
-    ensures { Gives (λ b. free_at b at ours) book.old c result book.new }
-{
-    let old = book[at];
-    if old == OWN {
-        book[at] = NONE;
-        return handed(c, OWN, NONE);
-    }
-    c
-}
-
-// Everything that is ours is freed.
+// Everything that is ours is freed: no record has a tally of it.
 pub fn release(book: &mut [u16], c: Counts) -> Counts
     ensures { Gives (λ b. released ours b (length book.old)) book.old c result book.new }
 {
     let mut d = c;
-    for at in 0..book.len() {
-        d = give_up(book, d, at);
+    for h in book.iter_mut() {
+        if *h == OWN {
+            *h = NONE;
+            d = handed(d, OWN, NONE);
+        }
     }
     d
 }
@@ -187,7 +169,5 @@ pub fn release(book: &mut [u16], c: Counts) -> Counts
 pub fn clear(book: &mut [u16])
     ensures { book.new ≡ replicate (length book.old) 0 }
 {
-    for at in 0..book.len() {
-        book[at] = NONE;
-    }
+    book.fill(NONE);
 }

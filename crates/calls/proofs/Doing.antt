@@ -1,37 +1,34 @@
 -- What is asked of the public calls is what the code makes of it: refused by lengths, bytes and watch, or done on what is lent.
 --     done-is          what is asked is done as the tests of specs/Told.antt tell
 --     passes-keep      slots that pass keep the lengths, the plan and our own ship
---     called_is        the whole call.        alone-is     and where neither register nor book is needed
---     told-lengths, told-fits      what the stages need, where they are needed
+--     called_is        the whole call.        told-fits    what its stages need
 -- Assumes nothing.
+use Rattle.std.specs.Prelude.{Result, Ok, Err}
 use mathlib.Core.Path.{◌≡◌, refl, sym, ap, ap₂, ◌∙◌}
 use mathlib.Core.Bool.{Bool, true, false}
 use mathlib.Core.List.{List, [], ◌∷◌, map}
 use Prim.Native.Nat.{ℕ, ◌-◌, ◌%◌}
 use native.Mathlib.Omega.{arith}
-use borrow.Author.Tests.{eqb-true, ltb-false}
-use lib.Dec.{eqb, ltb}
+use borrow.Author.Tests.{eqb-true}
+use lib.Dec.{eqb}
 use lib.ListN.{length, length-map, length-set}
-use Rattle.laws.specs.Tests.{pick, both, either, ladder}
+use Rattle.laws.specs.Tests.{pick, either, ladder}
 use Rattle.laws.specs.Loops.{upto}
-use Rattle.laws.proofs.Tests.{never, by-test, both_left, both_right, pick-of, pick-has}
+use Rattle.laws.proofs.Tests.{both_left, both_right, pick-of}
 use Rattle.laws.proofs.Upto.{upto-keeps}
 use Rattle.limits.specs.Limits.{slot_times, records}
 use Rattle.numbers.specs.declared.Refusal.{Refusal}
 use Rattle.numbers.specs.declared.Refusal.TheVariants.{OtherLength, BadSource, Repeated, OutOfRange, NoPlan}
-use Rattle.message.specs.declared.Received.{Received}
-use Rattle.message.specs.declared.Received.TheVariants.{Message as Got, Refused as NotRead}
+use Rattle.std.specs.Prelude.{Result, Ok, Err}
+use Rattle.message.specs.declared.Message.{Message}
 use Rattle.message.specs.Message.{message_of, read_tests, read_answer}
 use Rattle.ship.specs.declared.Station.{Station}
 use Rattle.ship.specs.declared.Ship.{Ship}
-use Rattle.ship.specs.declared.Owned.{Owned}
-use Rattle.ship.specs.declared.Owned.TheVariants.{Done as Owns, Refused as NotOwned}
 use Rattle.ship.specs.Ship.{own_answer, own_tests as source_tests}
 use Rattle.plan.specs.declared.Plan.{Plan as Plans}
 use Rattle.book.specs.declared.Watch.{Watch}
 use Rattle.book.specs.Book.{put_at, tallies_of}
 use Rattle.book.specs.Planning.{plan_fits}
-use Rattle.walks.specs.Out.{out}
 use Rattle.register.specs.State.{State, state_of, book_in, with_hold, tallied, settle, passed, passes}
 use Rattle.register.specs.Answers.{Answered, no, out_of, sized}
 use Rattle.register.proofs.Settling.{tallied-length}
@@ -60,10 +57,6 @@ use Rattle.calls.specs.Told.{
   report_task,
   task_of,
   told_of,
-  needs_them,
-  is_ready,
-  reply_to,
-  alone_reply,
 }
 use Rattle.calls.specs.Stages.{done_task, Sized, FitTask, Fit, carried_out}
 
@@ -76,37 +69,37 @@ through f ((true, y) ∷ ts) x = through f ts x
 through f ((false, y) ∷ ts) x = refl
 
 -- a task that is left where each test holds, and else refused
-abbrev refusing : List (Bool × Refusal) → Task → Task
-refusing ts t = ladder (map (λ (x : Bool × Refusal). (x.0, task.Refused x.1)) ts) t
+abbrev refusing : List (Bool × Refusal) → Result Task Refusal → Result Task Refusal
+refusing ts t = ladder (map (λ (x : Bool × Refusal). (x.0, Err x.1)) ts) t
 
 module _ (s : State) where
-  refusing-does : (ts : List (Bool × Refusal)) (t : Task) → ladder (map (λ (x : Bool × Refusal). (x.0, no s x.1)) ts) (done_task t s) ≡ done_task (refusing ts t) s
+  refusing-does : (ts : List (Bool × Refusal)) (t : Result Task Refusal) → ladder (map (λ (x : Bool × Refusal). (x.0, no s x.1)) ts) (done_task t s) ≡ done_task (refusing ts t) s
   unfolding done_task
   refusing-does [] t = refl
   refusing-does ((true, r) ∷ ts) t = refusing-does ts t
   refusing-does ((false, r) ∷ ts) t = refl
 
-  abbrev reads : Received → Answered
+  abbrev reads : Result Message Refusal → Answered
   reads r = done_task (received_task (sized s) s.watch.ship.source r) s
 
 pub done-is : (q : What) (s : State) (bytes : List ℕ) → done q s bytes ≡ done_task (task_of (sized s) s.watch bytes q) s
 unfolding done_task pass begin sum fit_task plan plan_task own own_task own_answer source_tests choose choose_tests choose_task report report_task hear hear_tests heard_task telling_task read_answer read_tests
-done-is Nothing s bytes = refusing-does s ((sized s, OtherLength) ∷ []) task.Nothing
+done-is Nothing s bytes = refusing-does s ((sized s, OtherLength) ∷ []) (Ok task.Nothing)
 done-is Hear s bytes =
     let x = telling_in bytes in
-    ap (ladder (map (λ (t : Bool × Received). (t.0, reads s t.1)) (read_tests bytes)))
-    (refusing-does s ((sized s, OtherLength) ∷ (fair_other x.source s.watch.ship.source, BadSource) ∷ (eqb x.repeat 0, Repeated) ∷ []) (task.Hear x))
-    ∙ sym (through (reads s) (read_tests bytes) (Got (message_of bytes)))
-done-is (ToPlan p) s bytes = refusing-does s ((sized s, OtherLength) ∷ (plan_fits p.rate p.start, OutOfRange) ∷ []) (task.Plan p)
-done-is (Own o) s bytes = sym (through (λ r. done_task (owned_task r) s) (source_tests o.source o.latitude o.longitude) (Owns o))
+    ap (ladder (map (λ (t : Bool × Result Message Refusal). (t.0, reads s t.1)) (read_tests bytes)))
+    (refusing-does s ((sized s, OtherLength) ∷ (fair_other x.source s.watch.ship.source, BadSource) ∷ (eqb x.repeat 0, Repeated) ∷ []) (Ok (task.Hear x)))
+    ∙ sym (through (reads s) (read_tests bytes) (Ok (message_of bytes)))
+done-is (ToPlan p) s bytes = refusing-does s ((sized s, OtherLength) ∷ (plan_fits p.rate p.start, OutOfRange) ∷ []) (Ok (task.Plan p))
+done-is (Own o) s bytes = sym (through (λ r. done_task (owned_task r) s) (source_tests o.source o.latitude o.longitude) (Ok o))
 done-is (Choose a) s bytes =
     let p = s.watch.channel.plan in
-    refusing-does s ((sized s, OtherLength) ∷ (plan_fits p.rate p.start, NoPlan) ∷ (ask_fits p a, OutOfRange) ∷ []) (task.Choose a)
+    refusing-does s ((sized s, OtherLength) ∷ (plan_fits p.rate p.start, NoPlan) ∷ (ask_fits p a, OutOfRange) ∷ []) (Ok (task.Choose a))
 done-is (Report t) s bytes =
     let p = s.watch.channel.plan in
-    refusing-does s ((sized s, OtherLength) ∷ (plan_fits p.rate p.start, NoPlan) ∷ (time_fits t, OutOfRange) ∷ []) (task.Report t)
-done-is New s bytes = refusing-does s ((sized s, OtherLength) ∷ []) task.New
-done-is Sum s bytes = refusing-does s ((sized s, OtherLength) ∷ []) task.Sum
+    refusing-does s ((sized s, OtherLength) ∷ (plan_fits p.rate p.start, NoPlan) ∷ (time_fits t, OutOfRange) ∷ []) (Ok (task.Report t))
+done-is New s bytes = refusing-does s ((sized s, OtherLength) ∷ []) (Ok task.New)
+done-is Sum s bytes = refusing-does s ((sized s, OtherLength) ∷ []) (Ok task.Sum)
 
 -- ---- lengths, and slots that pass
 
@@ -164,14 +157,14 @@ done-after : (s : State) (n : ℕ) (bytes : List ℕ) (q : What) → done q (pas
 done-after s n bytes q =
     let t = passes s n in
     let a = passes-keep s n in
-    done-is q t bytes ∙ ap (λ (x : Task). done_task x t) (ap (λ (b : Bool). task_of b t.watch bytes q) (sized-alike s t a) ∙ task-alike s t a (sized s) bytes q)
+    done-is q t bytes ∙ ap (λ (x : Result Task Refusal). done_task x t) (ap (λ (b : Bool). task_of b t.watch bytes q) (sized-alike s t a) ∙ task-alike s t a (sized s) bytes q)
 
 module _ (reg : List Station) (book : List ℕ) where
   -- a case that is carried out
   abbrev carried : Case → Answered
   carried c = done_task c.task (passes (state_of reg book c.watch) c.passes)
 
-  none_is : (w : Watch) → no (state_of reg book w) OtherLength ≡ done_task (task.Refused OtherLength) (passes (state_of reg book w) 0)
+  none_is : (w : Watch) → no (state_of reg book w) OtherLength ≡ done_task (Err OtherLength) (passes (state_of reg book w) 0)
   unfolding done_task
   none_is w = ap (λ (t : State). no t OtherLength) (sym (passes_none (state_of reg book w)))
 
@@ -184,138 +177,73 @@ module _ (reg : List Station) (book : List ℕ) where
         ap₂ (pick b) (done-after s x.passes bytes x.what) (none_is x.watch)
         ∙ sym (pick-of carried b
         (record { watch = x.watch; passes = x.passes; task = task_of (sized s) x.watch bytes x.what })
-        (record { watch = x.watch; passes = 0; task = task.Refused OtherLength }))
+        (record { watch = x.watch; passes = 0; task = Err OtherLength }))
 
     pub called_is : out_of (called (state_of reg book x.watch) x.passes bytes x.what) ≡ carried_out (told_of (length reg) (length book) bytes x) reg book
     called_is = ap out_of called-carried
 
-  -- ---- where neither register nor book is needed
-
-  alone-by : (t : Task) (w : Watch) → needs_them t ≡ false → out (reply_to t w) reg book ≡ out_of (done_task t (state_of reg book w))
-  unfolding done_task
-  alone-by (task.Refused r) w e = refl
-  alone-by task.Nothing w e = never (sym e)
-  alone-by (task.Hear x) w e = never (sym e)
-  alone-by (task.Plan p) w e = never (sym e)
-  alone-by (task.Own o) w e = refl
-  alone-by (task.Choose a) w e = never (sym e)
-  alone-by (task.Report t) w e = never (sym e)
-  alone-by task.New w e = never (sym e)
-  alone-by task.Sum w e = never (sym e)
-
-  pub alone-is : (c : Case) → is_ready c ≡ false → out (alone_reply c) reg book ≡ carried_out c reg book
-  unfolding is_ready alone_reply
-  alone-is c e =
-      let s = state_of reg book c.watch in
-      let none : c.passes ≡ 0 = omega (arith, ltb-false 0 c.passes (either-no-left (ltb 0 c.passes) (needs_them c.task) e)) in
-      let there : passes s c.passes ≡ s = ap (passes s) none ∙ passes_none s in
-      alone-by c.task c.watch (either-no-right (ltb 0 c.passes) (needs_them c.task) e)
-      ∙ sym (ap (λ (t : State). out_of (done_task c.task t)) there)
-    where
-      either-no-left : (a b : Bool) → either a b ≡ false → a ≡ false
-      either-no-left true b e = e
-      either-no-left false b e = refl
-
-      either-no-right : (a b : Bool) → either a b ≡ false → b ≡ false
-      either-no-right true b e = never (sym e)
-      either-no-right false b e = e
-
 -- ---- what the stages need
-
--- where the lengths are other ones nothing needs them
-not-needed : (w : Watch) (bytes : List ℕ) (q : What) → needs_them (task_of false w bytes q) ≡ false
-unfolding fit_task heard_task telling_task plan_task own_task choose_task report_task
-not-needed w bytes Nothing = refl
-not-needed w bytes Hear = by (read_answer bytes)
-  where
-    by : (r : Received) → needs_them (received_task false w.ship.source r) ≡ false
-    by (Got m) = refl
-    by (NotRead r) = refl
-not-needed w bytes (ToPlan p) = refl
-not-needed w bytes (Own o) = by (own_answer o.source o.latitude o.longitude)
-  where
-    by : (r : Owned) → needs_them (owned_task r) ≡ false
-    by (Owns t) = refl
-    by (NotOwned r) = refl
-not-needed w bytes (Choose a) = refl
-not-needed w bytes (Report t) = refl
-not-needed w bytes New = refl
-not-needed w bytes Sum = refl
 
 abbrev All : List (Bool × Refusal) → Type 0
 All [] = Unit {0}
 All ((b, r) ∷ ts) = (b ≡ true) × All ts
 
-fits-refusing : (p : Plans) (ts : List (Bool × Refusal)) (t : Task) → (All ts → FitTask t p) → FitTask (refusing ts t) p
-fits-refusing p [] t h = h tt
-fits-refusing p ((true, r) ∷ ts) t h = fits-refusing p ts t (λ a. h (refl, a))
-fits-refusing p ((false, r) ∷ ts) t h = tt
+module _ (reg : List Station) (book : List ℕ) where
+  fits-refusing : (p : Plans) (ts : List (Bool × Refusal)) (t : Result Task Refusal) → (All ts → FitTask t p reg book) → FitTask (refusing ts t) p reg book
+  fits-refusing p [] t h = h tt
+  fits-refusing p ((true, r) ∷ ts) t h = fits-refusing p ts t (λ a. h (refl, a))
+  fits-refusing p ((false, r) ∷ ts) t h = tt
 
--- a choice and a report are left to be done only where their tests hold
-fits-task : (fits : Bool) (w : Watch) (bytes : List ℕ) (q : What) → FitTask (task_of fits w bytes q) w.channel.plan
-unfolding fit_task heard_task telling_task plan_task own_task choose_task report_task
-fits-task fits w bytes Nothing = fits-refusing w.channel.plan ((fits, OtherLength) ∷ []) task.Nothing (λ a. tt)
-fits-task fits w bytes Hear = by (read_answer bytes)
-  where
-    by : (r : Received) → FitTask (received_task fits w.ship.source r) w.channel.plan
-    by (Got m) =
-        let x = telling_of m in
-        fits-refusing w.channel.plan ((fits, OtherLength) ∷ (fair_other x.source w.ship.source, BadSource) ∷ (eqb x.repeat 0, Repeated) ∷ []) (task.Hear x) (λ a. tt)
-    by (NotRead r) = tt
-fits-task fits w bytes (ToPlan p) = fits-refusing w.channel.plan ((fits, OtherLength) ∷ (plan_fits p.rate p.start, OutOfRange) ∷ []) (task.Plan p) (λ a. tt)
-fits-task fits w bytes (Own o) = by (own_answer o.source o.latitude o.longitude)
-  where
-    by : (r : Owned) → FitTask (owned_task r) w.channel.plan
-    by (Owns t) = tt
-    by (NotOwned r) = tt
-fits-task fits w bytes (Choose x) =
-    let p = w.channel.plan in
-    fits-refusing p ((fits, OtherLength) ∷ (plan_fits p.rate p.start, NoPlan) ∷ (ask_fits p x, OutOfRange) ∷ []) (task.Choose x) (λ a. (a.1.0, a.1.1.0))
-fits-task fits w bytes (Report t) =
-    let p = w.channel.plan in
-    fits-refusing p ((fits, OtherLength) ∷ (plan_fits p.rate p.start, NoPlan) ∷ (time_fits t, OutOfRange) ∷ []) (task.Report t) (λ a. a.1.0)
-fits-task fits w bytes New = fits-refusing w.channel.plan ((fits, OtherLength) ∷ []) task.New (λ a. tt)
-fits-task fits w bytes Sum = fits-refusing w.channel.plan ((fits, OtherLength) ∷ []) task.Sum (λ a. tt)
+  -- each is left to be done only where its tests hold
+  fits-task : (fits : Bool) (w : Watch) (bytes : List ℕ) (q : What) → (fits ≡ true → Sized reg book) → FitTask (task_of fits w bytes q) w.channel.plan reg book
+  unfolding fit_task heard_task telling_task plan_task own_task choose_task report_task
+  fits-task fits w bytes Nothing z = fits-refusing w.channel.plan ((fits, OtherLength) ∷ []) (Ok task.Nothing) (λ a. tt)
+  fits-task fits w bytes Hear z = by (read_answer bytes)
+    where
+      by : (r : Result Message Refusal) → FitTask (received_task fits w.ship.source r) w.channel.plan reg book
+      by (Ok m) =
+          let x = telling_of m in
+          fits-refusing w.channel.plan ((fits, OtherLength) ∷ (fair_other x.source w.ship.source, BadSource) ∷ (eqb x.repeat 0, Repeated) ∷ []) (Ok (task.Hear x)) (λ a. z a.0)
+      by (Err r) = tt
+  fits-task fits w bytes (ToPlan p) z =
+      fits-refusing w.channel.plan ((fits, OtherLength) ∷ (plan_fits p.rate p.start, OutOfRange) ∷ []) (Ok (task.Plan p)) (λ a. z a.0)
+  fits-task fits w bytes (Own o) z = by (own_answer o.source o.latitude o.longitude)
+    where
+      by : (r : Result Ship Refusal) → FitTask (owned_task r) w.channel.plan reg book
+      by (Ok t) = tt
+      by (Err r) = tt
+  fits-task fits w bytes (Choose x) z =
+      let p = w.channel.plan in
+      fits-refusing p ((fits, OtherLength) ∷ (plan_fits p.rate p.start, NoPlan) ∷ (ask_fits p x, OutOfRange) ∷ []) (Ok (task.Choose x)) (λ a. (z a.0, a.1.0, a.1.1.0))
+  fits-task fits w bytes (Report t) z =
+      let p = w.channel.plan in
+      fits-refusing p ((fits, OtherLength) ∷ (plan_fits p.rate p.start, NoPlan) ∷ (time_fits t, OutOfRange) ∷ []) (Ok (task.Report t)) (λ a. (z a.0, a.1.0))
+  fits-task fits w bytes New z = fits-refusing w.channel.plan ((fits, OtherLength) ∷ []) (Ok task.New) (λ a. z a.0)
+  fits-task fits w bytes Sum z = fits-refusing w.channel.plan ((fits, OtherLength) ∷ []) (Ok task.Sum) (λ a. z a.0)
 
-module _ (reg : List Station) (book : List ℕ) (bytes : List ℕ) (x : Ask) where
-  -- the case, and the one of two that it is
-  abbrev case : Case
-  case = told_of (length reg) (length book) bytes x
-
-  abbrev goes : Bool → Case
-  goes fits = record { watch = x.watch; passes = x.passes; task = task_of fits x.watch bytes x.what }
-
-  abbrev stops : Case
-  stops = record { watch = x.watch; passes = 0; task = task.Refused OtherLength }
-
-  -- with other lengths it is not ready
-  other : (z : Bool) → eqb x.passes 0 ≡ z → is_ready (pick (either z false) (goes false) stops) ≡ false
-  unfolding is_ready
-  other true e = ap₂ either (ap (ltb 0) (eqb-true x.passes 0 e)) (not-needed x.watch bytes x.what)
-  other false e = refl
-
-  pub told-fitting : is_ready case ≡ true → fitting (length reg) (length book) ≡ true
-  unfolding told_of
-  told-fitting e =
-      by-test (fitting (length reg) (length book)) (λ y. y)
-      (λ n. never (sym (ap (λ (b : Bool). is_ready (pick (either (eqb x.passes 0) b) (goes b) stops)) n ∙ other (eqb x.passes 0) refl) ∙ e))
-
-  -- both lengths, where it is ready
-  pub told-lengths : is_ready case ≡ true → Sized reg book
+  -- both lengths, where they are the right ones
+  fitting-sized : fitting (length reg) (length book) ≡ true → Sized reg book
   unfolding fitting
-  told-lengths e =
-      let f : both (eqb (length book) slot_times) (eqb (length reg) records) ≡ true = told-fitting e in
+  fitting-sized e =
       record {
-        register = eqb-true (length reg) records (both_right (eqb (length book) slot_times) (eqb (length reg) records) f);
-        size = eqb-true (length book) slot_times (both_left (eqb (length book) slot_times) (eqb (length reg) records) f);
+        register = eqb-true (length reg) records (both_right (eqb (length book) slot_times) (eqb (length reg) records) e);
+        size = eqb-true (length book) slot_times (both_left (eqb (length book) slot_times) (eqb (length reg) records) e);
       }
 
-  told-task : FitTask case.task case.watch.channel.plan
-  unfolding told_of
-  told-task =
-      let fits = fitting (length reg) (length book) in
-      pick-has (λ (c : Case). FitTask c.task c.watch.channel.plan) (either (eqb x.passes 0) fits) (goes fits) stops
-      (fits-task fits x.watch bytes x.what) tt
+  module _ (bytes : List ℕ) (x : Ask) where
+    -- the case that is told of, and the one where slots would pass on other lengths
+    abbrev goes : Bool → Case
+    goes fits = record { watch = x.watch; passes = x.passes; task = task_of fits x.watch bytes x.what }
 
-  pub told-fits : is_ready case ≡ true → Fit reg book case
-  told-fits e = record { sized = told-lengths e; fits = told-task }
+    abbrev stops : Case
+    stops = record { watch = x.watch; passes = 0; task = Err OtherLength }
+
+    fits-either : (z : Bool) → eqb x.passes 0 ≡ z → (fits : Bool) → (fits ≡ true → Sized reg book) → Fit reg book (pick (either z fits) (goes fits) stops)
+    fits-either true e fits h =
+        record { sized = λ l. absurd (omega (arith, eqb-true x.passes 0 e, l)); fits = fits-task fits x.watch bytes x.what h }
+    fits-either false e true h = record { sized = λ l. h refl; fits = fits-task true x.watch bytes x.what h }
+    fits-either false e false h = record { sized = λ l. absurd (omega (arith, l)); fits = tt }
+
+    pub told-fits : Fit reg book (told_of (length reg) (length book) bytes x)
+    unfolding told_of
+    told-fits = fits-either (eqb x.passes 0) refl (fitting (length reg) (length book)) fitting-sized

@@ -15,6 +15,8 @@ use Rattle.laws.specs.Loops.{upto}
 use Rattle.laws.proofs.Tests.{by-test, either_true}
 use Rattle.laws.proofs.Ladder.{above, by_tests, owes}
 use Rattle.limits.specs.Limits.{slot_times, records}
+use Rattle.std.specs.Prelude.{Result, Ok, Err}
+use Rattle.numbers.specs.declared.Refusal.{Refusal}
 use Rattle.numbers.specs.declared.Refusal.TheVariants.{OtherLength, NotOwn}
 use Rattle.register.specs.declared.Reply.{Reply}
 use Rattle.register.specs.declared.Answer.TheVariants.{Passed, Planned, Set, Begun, Sum as Summed}
@@ -123,18 +125,18 @@ kept-ladder s ((true, y) ∷ ts) x l k = kept-ladder s ts x l.1 k
 kept-ladder s ((false, y) ∷ ts) x l k = λ e. l.0
 
 -- what is left to be done, where it is refused
-kept-task : (t : Task) (s : State) → Kept s (done_task t s)
+kept-task : (t : Result Task Refusal) (s : State) → Kept s (done_task t s)
 unfolding done_task
-kept-task (task.Refused r) s e = refl
-kept-task task.Nothing s e = refl
-kept-task (task.Hear x) s e = kept-ladder s (book_tests s x) (hears s x) (refl, (refl, tt)) (λ z. absurd (omega (arith, z))) e
-kept-task (task.Plan p) s e = absurd (omega (arith, e))
-kept-task (task.Own o) s e = absurd (omega (arith, e))
-kept-task (task.Choose a) s e =
+kept-task (Err r) s e = refl
+kept-task (Ok task.Nothing) s e = refl
+kept-task (Ok (task.Hear x)) s e = kept-ladder s (book_tests s x) (hears s x) (refl, (refl, tt)) (λ z. absurd (omega (arith, z))) e
+kept-task (Ok (task.Plan p)) s e = absurd (omega (arith, e))
+kept-task (Ok (task.Own o)) s e = absurd (omega (arith, e))
+kept-task (Ok (task.Choose a)) s e =
     kept-ladder s (draw_tests s a) (chooses s a) (refl, (refl, (refl, (refl, tt)))) (λ z. absurd (omega (arith, z))) e
-kept-task (task.Report t) s e = kept-ladder s ((own_at s.book s.watch.present 0, no s NotOwn) ∷ []) (reports s t) (refl, tt) (λ z. refl) e
-kept-task task.New s e = absurd (omega (arith, e))
-kept-task task.Sum s e = refl
+kept-task (Ok (task.Report t)) s e = kept-ladder s ((own_at s.book s.watch.present 0, no s NotOwn) ∷ []) (reports s t) (refl, tt) (λ z. refl) e
+kept-task (Ok task.New) s e = absurd (omega (arith, e))
+kept-task (Ok task.Sum) s e = refl
 
 kept : (s : State) (bytes : List ℕ) (q : What) → Kept s (done q s bytes)
 kept s bytes q = rw (done-is q s bytes) (kept-task (task_of (sized s) s.watch bytes q) s)

@@ -1,22 +1,17 @@
 -- What a call comes to, as far as the lengths, the bytes and the watch tell.
 -- Assumes nothing.
-use Rattle.std.specs.Prelude.{ℕ, Bool, true, false, List, [], ◌∷◌, eqb, ltb}
+use Rattle.std.specs.Prelude.{ℕ, Bool, Result, Ok, Err, List, [], ◌∷◌, eqb}
 use Rattle.laws.specs.Tests.{pick, both, either, ladder}
 use Rattle.limits.specs.Limits.{slot_times, records}
 use Rattle.numbers.specs.declared.Refusal.{Refusal}
 use Rattle.numbers.specs.declared.Refusal.TheVariants.{OtherLength, BadSource, Repeated, OutOfRange, NoPlan}
-use Rattle.message.specs.declared.Received.{Received}
-use Rattle.message.specs.declared.Received.TheVariants.{Message as Got, Refused as NotRead}
+use Rattle.message.specs.declared.Message.{Message}
 use Rattle.message.specs.Message.{read_answer}
 use Rattle.plan.specs.declared.Plan.{Plan}
 use Rattle.ship.specs.declared.Ship.{Ship}
-use Rattle.ship.specs.declared.Owned.{Owned}
-use Rattle.ship.specs.declared.Owned.TheVariants.{Done, Refused as NotOwned}
 use Rattle.ship.specs.Ship.{own_answer}
 use Rattle.book.specs.declared.Watch.{Watch}
 use Rattle.book.specs.Planning.{plan_fits}
-use Rattle.register.specs.declared.Reply.{Reply}
-use Rattle.register.specs.declared.Answer.TheVariants.{Passed, Set, Refused}
 use Rattle.reporting.specs.declared.Time.{Time}
 use Rattle.reporting.specs.Report.{time_fits}
 use Rattle.hearing.specs.declared.Telling.{Telling}
@@ -35,81 +30,54 @@ use Rattle.calls.specs.declared.told.Case.{Case}
 unfoldable pub fitting : ℕ → ℕ → Bool
 fitting n m = both (eqb m slot_times) (eqb n records)
 
-unfoldable pub fit_task : Bool → Task → Task
-fit_task fits t = ladder ((fits, task.Refused OtherLength) ∷ []) t
+unfoldable pub fit_task : Bool → Result Task Refusal → Result Task Refusal
+fit_task fits t = ladder ((fits, Err OtherLength) ∷ []) t
 
-unfoldable pub telling_task : Bool → ℕ → Telling → Task
+unfoldable pub telling_task : Bool → ℕ → Telling → Result Task Refusal
 telling_task fits own x =
-    ladder ((fits, task.Refused OtherLength) ∷ (fair_other x.source own, task.Refused BadSource) ∷ (eqb x.repeat 0, task.Refused Repeated) ∷ []) (task.Hear x)
+    ladder ((fits, Err OtherLength) ∷ (fair_other x.source own, Err BadSource) ∷ (eqb x.repeat 0, Err Repeated) ∷ []) (Ok (task.Hear x))
 
-abbrev pub received_task : Bool → ℕ → Received → Task
-received_task fits own (Got m) = telling_task fits own (telling_of m)
-received_task fits own (NotRead r) = task.Refused r
+abbrev pub received_task : Bool → ℕ → Result Message Refusal → Result Task Refusal
+received_task fits own (Ok m) = telling_task fits own (telling_of m)
+received_task fits own (Err r) = Err r
 
-unfoldable pub heard_task : Bool → ℕ → List ℕ → Task
+unfoldable pub heard_task : Bool → ℕ → List ℕ → Result Task Refusal
 heard_task fits own bytes = received_task fits own (read_answer bytes)
 
-unfoldable pub plan_task : Bool → Plan → Task
-plan_task fits p = ladder ((fits, task.Refused OtherLength) ∷ (plan_fits p.rate p.start, task.Refused OutOfRange) ∷ []) (task.Plan p)
+unfoldable pub plan_task : Bool → Plan → Result Task Refusal
+plan_task fits p = ladder ((fits, Err OtherLength) ∷ (plan_fits p.rate p.start, Err OutOfRange) ∷ []) (Ok (task.Plan p))
 
-abbrev pub owned_task : Owned → Task
-owned_task (Done s) = task.Own s
-owned_task (NotOwned r) = task.Refused r
+abbrev pub owned_task : Result Ship Refusal → Result Task Refusal
+owned_task (Ok s) = Ok (task.Own s)
+owned_task (Err r) = Err r
 
-unfoldable pub own_task : Ship → Task
+unfoldable pub own_task : Ship → Result Task Refusal
 own_task s = owned_task (own_answer s.source s.latitude s.longitude)
 
 -- what goes by the plan
-abbrev pub by_plan : Bool → Plan → Bool → Task → Task
+abbrev pub by_plan : Bool → Plan → Bool → Result Task Refusal → Result Task Refusal
 by_plan fits p good t =
-    ladder ((fits, task.Refused OtherLength) ∷ (plan_fits p.rate p.start, task.Refused NoPlan) ∷ (good, task.Refused OutOfRange) ∷ []) t
+    ladder ((fits, Err OtherLength) ∷ (plan_fits p.rate p.start, Err NoPlan) ∷ (good, Err OutOfRange) ∷ []) t
 
-unfoldable pub choose_task : Bool → Plan → Wanted → Task
-choose_task fits p a = by_plan fits p (ask_fits p a) (task.Choose a)
+unfoldable pub choose_task : Bool → Plan → Wanted → Result Task Refusal
+choose_task fits p a = by_plan fits p (ask_fits p a) (Ok (task.Choose a))
 
-unfoldable pub report_task : Bool → Plan → Time → Task
-report_task fits p t = by_plan fits p (time_fits t) (task.Report t)
+unfoldable pub report_task : Bool → Plan → Time → Result Task Refusal
+report_task fits p t = by_plan fits p (time_fits t) (Ok (task.Report t))
 
-abbrev pub task_of : Bool → Watch → List ℕ → What → Task
-task_of fits w bytes Nothing = fit_task fits task.Nothing
+abbrev pub task_of : Bool → Watch → List ℕ → What → Result Task Refusal
+task_of fits w bytes Nothing = fit_task fits (Ok task.Nothing)
 task_of fits w bytes Hear = heard_task fits w.ship.source bytes
 task_of fits w bytes (ToPlan p) = plan_task fits p
 task_of fits w bytes (Own s) = own_task s
 task_of fits w bytes (Choose a) = choose_task fits w.channel.plan a
 task_of fits w bytes (Report t) = report_task fits w.channel.plan t
-task_of fits w bytes New = fit_task fits task.New
-task_of fits w bytes Sum = fit_task fits task.Sum
+task_of fits w bytes New = fit_task fits (Ok task.New)
+task_of fits w bytes Sum = fit_task fits (Ok task.Sum)
 
 -- where slots pass, the lengths are asked first
 unfoldable pub told_of : ℕ → ℕ → List ℕ → Ask → Case
 told_of n m bytes x =
     pick (either (eqb x.passes 0) (fitting n m))
     (record { watch = x.watch; passes = x.passes; task = task_of (fitting n m) x.watch bytes x.what })
-    (record { watch = x.watch; passes = 0; task = task.Refused OtherLength })
-
--- a refusal, our own ship, or anything else
-abbrev pub apart : {A : Type 0} → (Refusal → A) → (Ship → A) → A → Task → A
-apart f g x (task.Refused r) = f r
-apart f g x task.Nothing = x
-apart f g x (task.Hear h) = x
-apart f g x (task.Plan p) = x
-apart f g x (task.Own s) = g s
-apart f g x (task.Choose a) = x
-apart f g x (task.Report t) = x
-apart f g x task.New = x
-apart f g x task.Sum = x
-
--- register and book are needed
-abbrev pub needs_them : Task → Bool
-needs_them = apart (λ r. false) (λ s. false) true
-
-unfoldable pub is_ready : Case → Bool
-is_ready c = either (ltb 0 c.passes) (needs_them c.task)
-
-abbrev pub reply_to : Task → Watch → Reply
-reply_to t w =
-    apart (λ r. record { watch = w; answer = Refused r }) (λ s. record { watch = record { present = w.present; channel = w.channel; ship = s }; answer = Set })
-    (record { watch = w; answer = Passed }) t
-
-unfoldable pub alone_reply : Case → Reply
-alone_reply c = reply_to c.task c.watch
+    (record { watch = x.watch; passes = 0; task = Err OtherLength })

@@ -20,7 +20,7 @@ use register::Reply;
 use reporting::Time;
 use ship::{Ship, Station};
 use stages::carry;
-use told::{alone, ready, told};
+use told::told;
 
 // What is to be done once the slots have passed. What is heard is lent as bytes.
 #[derive(Clone, Copy)]
@@ -120,9 +120,6 @@ pub fn sum(w: Watch) -> Ask
 pub fn call(reg: &mut [Station], book: &mut [u16], bytes: &[u8], x: Ask) -> Reply
     ensures { Ends (out_of (called (state_of reg.old book.old x.watch) x.passes bytes.now x.what)) result reg.new book.new }
 {
-    let c = told(reg.len(), book.len(), bytes, x);
-    if ready(c) {
-        return carry(reg, book, c);
-    }
-    alone(c)
+    let case = told(reg.len(), book.len(), bytes, x);
+    carry(reg, book, case)
 }

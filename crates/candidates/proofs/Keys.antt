@@ -2,9 +2,7 @@
 -- Assumes nothing.
 use mathlib.Core.Path.{◌≡◌, sym}
 use mathlib.Core.Bool.{true, false}
-use Prim.Native.Nat.{ℕ, ◌+◌, ◌-◌, ◌*◌, ◌%◌, ◌≤◌, ◌<◌}
-use native.Mathlib.Omega.{arith}
-use lib.Dec.{eqb}
+use Prim.Native.Nat.{ℕ, ◌+◌, ◌-◌, ◌*◌, ◌≤◌, ◌<◌}
 use borrow.Author.Tests.{lt-ltb, le-ltb}
 use Rattle.distance.specs.Distance.{top}
 use Rattle.candidates.specs.declared.rounds.Best.{Best}
@@ -21,16 +19,6 @@ key-mid w i p l = sym (key-avail w i (avail-yes w p l))
 
 pub key-big : (w i : ℕ) → 0 < w → top ≤ w → 0 ≡ key_of w i
 key-big w i p l = sym (key-not w i (avail-big w p l))
-
--- ---- whether a slot is that of a key
-
-pub hits-none : (k i : ℕ) → k ≡ 0 → false ≡ key_hits k i
-unfolding key_hits
-hits-none k i e = simp (le-ltb 0 k (omega arith))
-
-pub hits-some : (k i : ℕ) → (k ≡ 0 → ⊥) → eqb (511 - k % 512) i ≡ key_hits k i
-unfolding key_hits
-hits-some k i p = simp (lt-ltb 0 k (omega (arith, p)))
 
 -- ---- whether a slot is one of the best, by the tests of the code
 

@@ -21,9 +21,7 @@ use Rattle.ship.specs.declared.Station.{Station}
 use Rattle.book.specs.Book.{ours}
 use Rattle.distance.specs.Distance.{we_known, is_known, gap_to, top, level_of}
 use Rattle.distance.proofs.Levels.{levels-below-top, level-base, level-unknown, level-held, level-gap}
-use Rattle.candidates.specs.declared.SlotState.{SlotState}
-use Rattle.candidates.specs.declared.SlotState.TheVariants.{Own, Earlier, Free, OwnUnknown, Base, Unknown, HeldOff, Far}
-use Rattle.candidates.specs.Slot.{View, frame, is_own, is_none, station_of, is_base, is_unknown, is_held_off, gap, earlier, state_of}
+use Rattle.candidates.specs.Slot.{SlotState, Own, Earlier, Free, OwnUnknown, Base, Unknown, HeldOff, Far, View, frame, is_own, is_none, station_of, is_base, is_unknown, is_held_off, gap, earlier, state_of}
 use Rattle.candidates.specs.Window.{worth, is_free, is_available}
 use Rattle.candidates.specs.Scanning.{level, worth_by, free_at}
 use Rattle.candidates.proofs.Ranking.{avail-zero, avail-big}

@@ -10,14 +10,16 @@ use lib.ListN.{length, get_or}
 use lib.Dec.{ltb}
 use borrow.Author.Tests.{eq-eqb, ne_eqb, ltb-true}
 use Rattle.laws.specs.Tests.{both, either}
-use Rattle.candidates.specs.declared.SlotState.{SlotState}
-use Rattle.candidates.specs.declared.SlotState.TheVariants.{Own, Earlier, Free, OwnUnknown, Base, Unknown, HeldOff, Far}
+use Rattle.std.specs.declared.result.Result.{Result}
+use Rattle.std.specs.declared.result.Result.TheVariants.{Ok, Err}
+use Rattle.numbers.specs.declared.Refusal.{Refusal}
+use Rattle.numbers.specs.declared.Refusal.TheVariants.{NoCandidate}
+use Rattle.numbers.specs.Numbers.{number_of}
 use Rattle.candidates.specs.declared.Window.{Window}
 use Rattle.candidates.specs.declared.Picked.{Picked}
-use Rattle.candidates.specs.declared.Picked.TheVariants.{At, NoCandidate, SentBack, Taken}
 use Rattle.distance.specs.Distance.{top}
-use Rattle.candidates.specs.Slot.{View}
-use Rattle.candidates.specs.Window.{worth, is_free, is_available, free, rank, candidate, candidates}
+use Rattle.candidates.specs.Slot.{SlotState, Own, Earlier, Free, OwnUnknown, Base, Unknown, HeldOff, Far, View}
+use Rattle.candidates.specs.Window.{worth, is_free, is_available, free, rank, candidate, candidates, distance_in, number_in}
 use Rattle.candidates.specs.Rounds.{keys}
 use Rattle.candidates.specs.Choice.{worth_in, candidates_in, choice}
 use Rattle.candidates.specs.Promises.{
@@ -37,7 +39,7 @@ use Rattle.candidates.specs.Promises.{
 }
 use Rattle.laws.proofs.Tests.{both_left, both_right}
 use Rattle.laws.proofs.Those.{Place, count-those, those-in, those-apart, those-has}
-use Rattle.candidates.proofs.Draws.{Draw, none, at, back, draw, picked_none, draws-each, draws-back}
+use Rattle.candidates.proofs.Draws.{Draw, none, one-of, back, draw, picked_none, draws-each, draws-back}
 use Rattle.candidates.proofs.Levels.{distance_of, near-small}
 use Rattle.candidates.proofs.Ranking.{avail-yes, avail-bounds, key-avail, greater-key, count-candidates}
 
@@ -65,11 +67,9 @@ module _ (v : View) (w : Window) where
 -- ---- draws
 
 -- the answers as numbers, to tell them apart
-abbrev answer : Picked → ℕ
-answer (At x n) = 0
-answer NoCandidate = 1
-answer SentBack = 2
-answer Taken = 3
+abbrev answer : Result Picked Refusal → ℕ
+answer (Ok p) = 0
+answer (Err r) = number_of r
 
 pub pick-is-candidate : PickIsCandidate
 unfolding choice
@@ -78,10 +78,10 @@ pick-is-candidate v w d x n e = go (draw w.first (candidates_in v w) d)
     go : Draw w.first (candidates_in v w) d → Picks v w x n
     go (none z q) = absurd (omega (arith, ap answer (sym q ∙ e)))
     go (back q) = absurd (omega (arith, ap answer (sym q ∙ e)))
-    go (at p q) =
+    go (one-of p q) =
         let k = d % length (candidates_in v w) in
-        let y : x ≡ w.first + get_or (candidates_in v w) k 0 = cc in
-        let z : n ≡ length (candidates_in v w) = cc in
+        let y : x ≡ w.first + get_or (candidates_in v w) k 0 = ap distance_in (sym e ∙ q) in
+        let z : n ≡ length (candidates_in v w) = ap number_in (sym e ∙ q) in
         record { slot = get_or (candidates_in v w) k 0; there = y; candidate = listed v w k (mod-lt d p); number = z }
 
 pub equal-draws-each : EqualDraws
@@ -98,12 +98,12 @@ pub none-exactly : NoneExactly
 unfolding choice
 none-exactly v w d = (λ e i c. only e (stands v w i c), λ f. picked_none w.first (candidates_in v w) d (empty f))
   where
-    only : {i : ℕ} → choice v w d ≡ NoCandidate → Place (candidates_in v w) i → ⊥
+    only : {i : ℕ} → choice v w d ≡ Err NoCandidate → Place (candidates_in v w) i → ⊥
     only e h = go (draw w.first (candidates_in v w) d)
       where
         go : Draw w.first (candidates_in v w) d → ⊥
         go (none z q) = omega (arith, h.inside)
-        go (at p q) = omega (arith, ap answer (sym q ∙ e))
+        go (one-of p q) = omega (arith, ap answer (sym q ∙ e))
         go (back q) = omega (arith, ap answer (sym q ∙ e))
 
     empty : ((i : ℕ) → Candidate v w i → ⊥) → length (candidates_in v w) ≡ 0

@@ -1,4 +1,4 @@
--- A slot by the book alone, by the tests of the code: the slot a frame earlier, the place a frame on, whether it is free, and the holder to be looked at.
+-- A slot by the book alone: the holders of its times, and whether it is free; nobody's level, and the worth of a slot by its tests.
 -- Assumes nothing.
 use mathlib.Core.Path.{◌≡◌, refl, sym, ap, ◌∙◌}
 use mathlib.Core.Bool.{Bool, true, false}
@@ -8,41 +8,17 @@ use native.Mathlib.Decide.{ℕ_discrete}
 use native.Mathlib.Numerals.{add-one}
 use native.Mathlib.Omega.{arith}
 use lib.ListN.{get_or}
-use lib.Dec.{eqb}
-use borrow.Author.Tests.{eq-eqb, ne_eqb, lt-ltb, le-ltb, le-leb, lt-leb}
-use Rattle.laws.specs.Tests.{pick, both, either}
-use Rattle.laws.specs.Counting.{one}
-use Rattle.laws.specs.Ranges.{every, how_many}
-use Rattle.laws.proofs.Sums.{one-true}
+use borrow.Author.Tests.{eq-eqb, ne_eqb}
+use Rattle.laws.specs.Tests.{both}
+use Rattle.laws.specs.Ranges.{every}
 use Rattle.laws.proofs.Tests.{both-no}
 use Rattle.limits.specs.Limits.{frame_slots, slot_times}
-use Rattle.ship.specs.declared.Ship.{Ship}
 use Rattle.ship.specs.declared.Station.{Station}
-use Rattle.book.specs.Book.{ours, place}
-use Rattle.book.proofs.Holders.{is-record, others-have-none}
-use Rattle.distance.specs.Distance.{own_level, base_level, held_off_level, top, level_of}
-use Rattle.candidates.specs.declared.Window.{Window}
-use Rattle.candidates.specs.declared.rounds.Best.{Best}
+use Rattle.book.specs.Book.{place}
+use Rattle.distance.specs.Distance.{held_off_level, top}
 use Rattle.candidates.specs.declared.slot.Slot.{Slot}
-use Rattle.candidates.specs.Slot.{holder_at, frame, is_own, is_none, earlier}
-use Rattle.candidates.specs.Scanning.{worth_by, slot_of, free_at, free_in, free_upto_four, level_by, held_in, stays, holder_in, reused_by, candidate_by}
-
--- a slot by its parts
-abbrev pub slot_made : ℕ → ℕ → ℕ → Bool → Ship → Slot
-slot_made from times bound earlier ship = record { from = from; times = times; bound = bound; earlier = earlier; ship = ship }
-
--- ---- the slot a frame earlier
-
-module _ (slots : List ℕ) (present at : ℕ) where
-  -- it lies before now
-  pub earlier-past : at < frame_slots → false ≡ earlier slots present at
-  unfolding earlier
-  earlier-past l = simp (lt-leb frame_slots at l)
-
-  -- it is in the book, at the place p
-  pub earlier-book : (p : ℕ) → p ≡ place present (at - frame_slots) → frame_slots ≤ at → eqb (get_or slots p 0) ours ≡ earlier slots present at
-  unfolding earlier is_own holder_at
-  earlier-book p e l = simp (le-leb frame_slots at l, e)
+use Rattle.candidates.specs.Slot.{holder_at, frame, is_none, earlier}
+use Rattle.candidates.specs.Scanning.{worth_by, free_at, level_by}
 
 -- ---- the place a frame on
 
@@ -54,7 +30,7 @@ pub held-there : (slots : List ℕ) (present at i p : ℕ) → p ≡ place prese
 unfolding holder_at
 held-there slots present at i p e = ap (λ (q : ℕ). get_or slots q 0) e
 
--- ---- every number below n passes: the turns of a loop that stops at one that does not
+-- ---- every number below n passes, or one does not
 
 pub every-none : (p : ℕ → Bool) → every p 0 ≡ true
 unfolding every
@@ -111,53 +87,11 @@ pub free-turn : (slots : List ℕ) (present at i p : ℕ) → p ≡ place presen
 free-turn slots present at i p q e z =
     every_more (λ i. is_none (frame slots present at i)) i e (none-held (frame slots present at i) (sym (held-there slots present at i p q) ∙ z))
 
--- ---- counting to four
-
-module _ (p : ℕ → Bool) where
-  many-suc : (n : ℕ) → how_many p (suc n) ≡ how_many p n + one (p n)
-  unfolding how_many
-  many-suc n = refl
-
-  many-grows : (i d : ℕ) → how_many p i ≤ how_many p (i + d)
-  many-grows i zero = let e : i + 0 ≡ i = omega arith in omega (arith, ap (how_many p) e)
-  many-grows i (suc d) = let e : i + suc d ≡ suc (i + d) = omega arith in omega (arith, ap (how_many p) e, many-suc (i + d), many-grows i d)
-
-  pub many-upto : (i n : ℕ) → i ≤ n → how_many p i ≤ how_many p n
-  many-upto i n l = let e : i + (n - i) ≡ n = omega arith in omega (arith, ap (how_many p) (sym e), many-grows i (n - i))
-
-pub bit-of : (slots : List ℕ) (w : Window) (i : ℕ) (t : Bool) (n : ℕ) → t ≡ free_at slots w.present (w.first + i) w.timeout → n ≡ one t → n ≡ one (free_in slots w i)
-unfolding free_in
-bit-of slots w i t n e q = q ∙ ap one e
-
-pub four-free : (slots : List ℕ) (w : Window) (i n : ℕ) → n ≡ how_many (free_in slots w) (i + 1) → i < w.width → n ≡ 4 → 4 ≡ free_upto_four slots w
-unfolding free_upto_four
-four-free slots w i n e l f = omega (arith, many-upto (free_in slots w) (i + 1) w.width (omega arith))
-
-pub few-free : (slots : List ℕ) (w : Window) (i n : ℕ) → n ≡ how_many (free_in slots w) i → i ≡ w.width → n < 4 → n ≡ free_upto_four slots w
-unfolding free_upto_four
-few-free slots w i n e q l = omega (arith, ap (how_many (free_in slots w)) q)
-
 -- ---- the level of a holder
 
-module _ (h : ℕ) where
-  module _ (s : Station) (x : Slot) where
-    pub level-none : h ≡ 0 → top ≡ level_by s h x
-    unfolding level_by is_none
-    level-none e = simp (eq-eqb h 0 e)
-
-    module _ (p : h ≡ 0 → ⊥) where
-      pub level-own : h ≡ ours → own_level ≡ level_by s h x
-      unfolding level_by is_none is_own
-      level-own e = simp (ne_eqb h 0 p, eq-eqb h ours e)
-
-      module _ (o : h ≡ ours → ⊥) where
-        pub level-record : h < ours → level_of x.ship s ≡ level_by s h x
-        unfolding level_by is_none is_own
-        level-record l = simp (ne_eqb h 0 p, ne_eqb h ours o, is-record h (omega (arith, p)) l)
-
-        pub level-other : ours ≤ h → base_level ≡ level_by s h x
-        unfolding level_by is_none is_own
-        level-other l = simp (ne_eqb h 0 p, ne_eqb h ours o, others-have-none h l)
+pub level-none : (h : ℕ) (s : Station) (x : Slot) → h ≡ 0 → top ≡ level_by s h x
+unfolding level_by is_none
+level-none h s x e = simp (eq-eqb h 0 e)
 
 -- ---- a worth
 
@@ -174,49 +108,3 @@ module _ (t : Bool) (low : ℕ) where
     pub worth-held : (low ≡ top → ⊥) → low - held_off_level ≡ worth_by t low
     unfolding worth_by
     worth-held e = simp (f, ne_eqb low top e)
-
--- ---- the slot of a window as it is to be looked at
-
-module _ (slots : List ℕ) (w : Window) (p : Ship) (bound i : ℕ) where
-  -- its times, by whether the slot a frame earlier is own
-  pub slot-made : (at n : ℕ) (e : Bool) → at ≡ place w.present (w.first + i) → n ≡ pick e 0 (w.timeout + 1) → e ≡ earlier slots w.present (w.first + i)
-      → slot_made at n bound e p ≡ slot_of slots w p bound i
-  unfolding slot_of
-  slot-made at n e q r s =
-      ap (λ (t : ℕ). slot_made at t bound e p) r ∙ ap (λ (t : ℕ). slot_made t (pick e 0 (w.timeout + 1)) bound e p) q
-      ∙ ap (λ (t : Bool). slot_made (place w.present (w.first + i)) (pick t 0 (w.timeout + 1)) bound t p) s
-
--- ---- the holder to be looked at
-
-pub held_at : (slots : List ℕ) (x : Slot) (i p : ℕ) → p ≡ (x.from + frame_slots * i) % slot_times → get_or slots p 0 ≡ held_in slots x i
-unfolding held_in
-held_at slots x i p e = ap (λ (q : ℕ). get_or slots q 0) e
-
-module _ (slots : List ℕ) (x : Slot) (low i : ℕ) where
-  pub holder-low : low ≤ x.bound → 0 ≡ holder_in slots x low i
-  unfolding holder_in
-  holder-low l = simp (le-leb low x.bound l)
-
-  module _ (l : x.bound < low) where
-    pub holder-first : i ≡ 0 → held_in slots x i ≡ holder_in slots x low i
-    unfolding holder_in stays
-    holder-first e = simp (lt-leb low x.bound l, le-ltb 0 i (omega arith))
-
-    pub holder-same : (i ≡ 0 → ⊥) → held_in slots x i ≡ held_in slots x (i - 1) → 0 ≡ holder_in slots x low i
-    unfolding holder_in stays
-    holder-same n e = simp (lt-leb low x.bound l, lt-ltb 0 i (omega (arith, n)), eq-eqb (held_in slots x i) (held_in slots x (i - 1)) e)
-
-    pub holder-other : (i ≡ 0 → ⊥) → (held_in slots x i ≡ held_in slots x (i - 1) → ⊥) → held_in slots x i ≡ holder_in slots x low i
-    unfolding holder_in stays
-    holder-other n e = simp (lt-leb low x.bound l, lt-ltb 0 i (omega (arith, n)), ne_eqb (held_in slots x i) (held_in slots x (i - 1)) e)
-
--- ---- a candidate
-
-module _ (slots : List ℕ) (w : Window) (f : ℕ) (b : Best) (i : ℕ) where
-  pub candidate-reused : reused_by f b i ≡ true → 1 ≡ one (candidate_by slots w f b i)
-  unfolding candidate_by
-  candidate-reused e = sym (one-true (ap (λ (t : Bool). either t (free_in slots w i)) e))
-
-  pub candidate-free : reused_by f b i ≡ false → one (free_in slots w i) ≡ one (candidate_by slots w f b i)
-  unfolding candidate_by
-  candidate-free e = ap one (sym (ap (λ (s : Bool). either s (free_in slots w i)) e))

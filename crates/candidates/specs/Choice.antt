@@ -1,6 +1,8 @@
 -- The choice: the candidates of a window in what is looked at, and the slot that a draw picks.
 -- Assumes nothing.
 use Rattle.std.specs.Prelude.{ℕ, ◌+◌, List}
+use Rattle.std.specs.declared.result.Result.{Result}
+use Rattle.numbers.specs.declared.Refusal.{Refusal}
 use Rattle.candidates.specs.declared.Window.{Window}
 use Rattle.candidates.specs.declared.Picked.{Picked}
 use Rattle.candidates.specs.Slot.{View, state_of}
@@ -13,5 +15,5 @@ worth_in v w i = worth (state_of v w.present (w.first + i) w.timeout)
 unfoldable pub candidates_in : View → Window → List ℕ
 candidates_in v w = candidates (worth_in v w) w.width
 
-unfoldable pub choice : View → Window → ℕ → Picked
+unfoldable pub choice : View → Window → ℕ → Result Picked Refusal
 choice v w d = picked w.first (candidates_in v w) d

@@ -1,13 +1,11 @@
 -- What is promised of the choice, beyond what each function's contract says. Proved in proofs/Promised.antt.
 -- Assumes nothing.
-use Rattle.std.specs.Prelude.{ℕ, ◌+◌, ◌-◌, ◌*◌, ◌/◌, ◌≤◌, ◌<◌, min, ◌≡◌, true, ◌↔◌, length}
+use Rattle.std.specs.Prelude.{ℕ, ◌+◌, ◌-◌, ◌*◌, ◌/◌, ◌≤◌, ◌<◌, min, ◌≡◌, true, ◌↔◌, length, Ok, Err}
 use Rattle.laws.specs.Ranges.{how_many}
-use Rattle.candidates.specs.declared.SlotState.{SlotState}
-use Rattle.candidates.specs.declared.SlotState.TheVariants.{Free, Far}
+use Rattle.numbers.specs.declared.Refusal.TheVariants.{NoCandidate}
 use Rattle.candidates.specs.declared.Window.{Window}
-use Rattle.candidates.specs.declared.Picked.TheVariants.{At, NoCandidate}
-use Rattle.candidates.specs.Slot.{View, state_of}
-use Rattle.candidates.specs.Window.{free, available, rank, candidate, is_back, is_at}
+use Rattle.candidates.specs.Slot.{SlotState, Free, Far, View, state_of}
+use Rattle.candidates.specs.Window.{free, available, rank, candidate, at, is_back, is_at}
 use Rattle.candidates.specs.Choice.{worth_in, candidates_in, choice}
 
 -- ---- words for the slots of a window
@@ -31,7 +29,7 @@ pub record Picks (v : View) (w : Window) (x n : ℕ) : Type 0 where
 -- ---- demand 2: picked from the candidates, each by equally many draws
 
 abbrev pub PickIsCandidate : Type 0
-PickIsCandidate = (v : View) (w : Window) (d x n : ℕ) → choice v w d ≡ At x n → Picks v w x n
+PickIsCandidate = (v : View) (w : Window) (d x n : ℕ) → choice v w d ≡ Ok (at x n) → Picks v w x n
 
 -- of the 65,536 draws each candidate has floor(65536 / n) ..
 abbrev pub EqualDraws : Type 0
@@ -50,7 +48,7 @@ RestSentBack =
 abbrev pub NoneExactly : Type 0
 NoneExactly =
     (v : View) (w : Window) (d : ℕ)
-    → (choice v w d ≡ NoCandidate) ↔ ((i : ℕ) → Candidate v w i → ⊥)
+    → (choice v w d ≡ Err NoCandidate) ↔ ((i : ℕ) → Candidate v w i → ⊥)
 
 -- ---- the rule of four
 

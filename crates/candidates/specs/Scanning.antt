@@ -3,9 +3,11 @@
 -- comes to the choice.
 -- Assumes nothing.
 use Rattle.std.specs.Prelude.{ℕ, ◌+◌, ◌-◌, ◌*◌, ◌/◌, ◌%◌, min, Bool, true, false, not, List, get_or, eqb, leb, ltb}
+use Rattle.std.specs.declared.result.Result.{Result}
 use Rattle.laws.specs.Tests.{pick, both, either}
 use Rattle.laws.specs.Ranges.{every, how_many, those}
 use Rattle.limits.specs.Limits.{frame_slots, slot_times}
+use Rattle.numbers.specs.declared.Refusal.{Refusal}
 use Rattle.ship.specs.declared.Ship.{Ship}
 use Rattle.ship.specs.declared.Station.{Station}
 use Rattle.ship.specs.Ship.{blank}
@@ -107,5 +109,5 @@ reused_by f b i =
 unfoldable pub candidate_by : List ℕ → Window → ℕ → Best → ℕ → Bool
 candidate_by slots w f b i = either (reused_by f b i) (free_in slots w i)
 
-unfoldable pub drawn : List ℕ → Window → ℕ → Best → ℕ → Picked
+unfoldable pub drawn : List ℕ → Window → ℕ → Best → ℕ → Result Picked Refusal
 drawn slots w f b d = picked w.first (those (candidate_by slots w f b) 0 w.width) d

@@ -9,8 +9,18 @@ use Rattle.ship.specs.declared.Station.{Station}
 use Rattle.ship.specs.Ship.{blank}
 use Rattle.book.specs.Book.{ours, is_record, place}
 use Rattle.distance.specs.Distance.{gap_to, we_known, is_known, top}
-use Rattle.candidates.specs.declared.SlotState.{SlotState}
-use Rattle.candidates.specs.declared.SlotState.TheVariants.{Own, Earlier, Free, OwnUnknown, Base, Unknown, HeldOff, Far}
+
+-- What a slot with its later frames is for the choice. `Earlier`: the slot a frame earlier is own. `OwnUnknown` to `HeldOff`: why it is not available. `Far`:
+-- available at this distance.
+pub data SlotState : Type 0 where
+  Own : SlotState
+  Earlier : SlotState
+  Free : SlotState
+  OwnUnknown : SlotState
+  Base : SlotState
+  Unknown : SlotState
+  HeldOff : SlotState
+  Far : ℕ → SlotState
 
 -- what a choice looks at: our ship, the station records, and the holder of each slot time
 pub record View : Type 0 where

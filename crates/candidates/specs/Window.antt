@@ -1,14 +1,16 @@
 -- The candidates of a window, and the one that a draw picks. ws: the worth of each of the window's n slots, in time order. A slot's worth is 0
 -- if it can be no candidate, d + 1 if it is available and its nearest holder is at the distance d, top if it is free.
 -- Assumes nothing.
-use Rattle.std.specs.Prelude.{ℕ, ◌+◌, ◌-◌, ◌*◌, ◌/◌, ◌%◌, Bool, true, false, List, length, get_or, eqb, ltb}
+use Rattle.std.specs.Prelude.{ℕ, ◌+◌, ◌-◌, ◌*◌, ◌/◌, ◌%◌, Bool, false, List, length, get_or, eqb, ltb, Ok, Err}
+use Rattle.std.specs.declared.result.Result.{Result}
 use Rattle.laws.specs.Tests.{pick, both, either}
 use Rattle.laws.specs.Ranges.{how_many, those}
 use Rattle.distance.specs.Distance.{top}
-use Rattle.candidates.specs.declared.SlotState.{SlotState}
-use Rattle.candidates.specs.declared.SlotState.TheVariants.{Own, Earlier, Free, OwnUnknown, Base, Unknown, HeldOff, Far}
+use Rattle.numbers.specs.declared.Refusal.{Refusal}
+use Rattle.numbers.specs.declared.Refusal.TheVariants.{NoCandidate, DrawBack}
+use Rattle.numbers.specs.Numbers.{number_of}
 use Rattle.candidates.specs.declared.Picked.{Picked}
-use Rattle.candidates.specs.declared.Picked.TheVariants.{At, NoCandidate, SentBack, Taken}
+use Rattle.candidates.specs.Slot.{SlotState, Own, Earlier, Free, OwnUnknown, Base, Unknown, HeldOff, Far}
 
 abbrev pub worth : SlotState → ℕ
 worth Own = 0
@@ -50,45 +52,39 @@ candidate ws n j = either (is_free (ws j)) (both (is_available (ws j)) (ltb (ran
 unfoldable pub candidates : (ℕ → ℕ) → ℕ → List ℕ
 candidates ws n = those (candidate ws n) 0 n
 
+-- the slot x ahead, one of n candidates
+abbrev pub at : ℕ → ℕ → Picked
+at x n = record { distance = x; candidates = n }
+
 -- the draw d among the candidates cs, counted from the window's first slot, which is a ahead
-unfoldable pub picked : ℕ → List ℕ → ℕ → Picked
+unfoldable pub picked : ℕ → List ℕ → ℕ → Result Picked Refusal
 picked a cs d =
-    pick (eqb (length cs) 0) NoCandidate
-    (pick (ltb d (length cs * (65536 / length cs))) (At (a + get_or cs (d % length cs) 0) (length cs)) SentBack)
+    pick (eqb (length cs) 0) (Err NoCandidate)
+    (pick (ltb d (length cs * (65536 / length cs))) (Ok (at (a + get_or cs (d % length cs) 0) (length cs))) (Err DrawBack))
 
 -- ---- what came of a draw
 
 -- no candidate; sent back
-abbrev pub is_no : Picked → Bool
-is_no (At x n) = false
-is_no NoCandidate = true
-is_no SentBack = false
-is_no Taken = false
+abbrev pub is_no : Result Picked Refusal → Bool
+is_no (Ok p) = false
+is_no (Err r) = eqb (number_of r) (number_of NoCandidate)
 
-abbrev pub is_back : Picked → Bool
-is_back (At x n) = false
-is_back NoCandidate = false
-is_back SentBack = true
-is_back Taken = false
+abbrev pub is_back : Result Picked Refusal → Bool
+is_back (Ok p) = false
+is_back (Err r) = eqb (number_of r) (number_of DrawBack)
 
 -- the slot that is picked, and out of how many
-abbrev pub distance_in : Picked → ℕ
-distance_in (At x n) = x
-distance_in NoCandidate = 0
-distance_in SentBack = 0
-distance_in Taken = 0
+abbrev pub distance_in : Result Picked Refusal → ℕ
+distance_in (Ok p) = p.distance
+distance_in (Err r) = 0
 
-abbrev pub number_in : Picked → ℕ
-number_in (At x n) = n
-number_in NoCandidate = 0
-number_in SentBack = 0
-number_in Taken = 0
+abbrev pub number_in : Result Picked Refusal → ℕ
+number_in (Ok p) = p.candidates
+number_in (Err r) = 0
 
 -- ---- what the theorems speak of
 
 -- the answer is the slot x ahead
-abbrev pub is_at : ℕ → Picked → Bool
-is_at x (At y n) = eqb y x
-is_at x NoCandidate = false
-is_at x SentBack = false
-is_at x Taken = false
+abbrev pub is_at : ℕ → Result Picked Refusal → Bool
+is_at x (Ok p) = eqb p.distance x
+is_at x (Err r) = false

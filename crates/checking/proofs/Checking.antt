@@ -6,10 +6,12 @@ use Prim.Native.Nat.{ℕ, zero, suc, ◌+◌, ◌-◌, ◌*◌, ◌≤◌, ◌<�
 use native.Mathlib.Omega.{arith}
 use lib.ListN.{length, get_or, take, drop, length-take}
 use lib.Seq.{take-add, drop-drop, drop_at, length-take-le}
+use Rattle.std.specs.Int.{w32, from_le_bytes}
+use Rattle.std.specs.Simd.{first_chunks}
 use Rattle.laws.proofs.Lists.{next}
-use Rattle.bits.specs.Bits.{low_first, sent_bits, four_of}
+use Rattle.bits.specs.Bits.{low_first, sent_bits}
 use Rattle.bits.proofs.Bits.{low-append}
-use Rattle.bits.proofs.Bytes.{sent_bits-more, sent_bits-end, sent-append}
+use Rattle.bits.proofs.Bytes.{sent_bits-more, sent_bits-end, sent-append, chunk-at}
 use Rattle.checking.specs.Check.{zeros, through, mirrored}
 use Rattle.checking.proofs.Zeros.{zeros-low, zeros-more}
 use Rattle.checking.proofs.Register.{through-append}
@@ -39,8 +41,7 @@ four-sent a b c d ha hb hc hd =
     let e : a + (b + (c + d * 256) * 256) * 256 ≡ a + b * 256 + c * 65536 + d * 16777216 = omega arith in
     sent_bits-more a (b ∷ c ∷ d ∷ []) ∙ ap (low_first 8 a ++◌) three ∙ low-append 8 24 a (b + (c + d * 256) * 256) ha ∙ ap (low_first 32) e
 
-pub four-taken : (l : List ℕ) (i : ℕ) → i + 4 ≤ length l → ((j : ℕ) → get_or l j 0 < 256) → sent_bits (take 4 (drop i l)) ≡ low_first 32 (four_of l i)
-unfolding four_of
+four-taken : (l : List ℕ) (i : ℕ) → i + 4 ≤ length l → ((j : ℕ) → get_or l j 0 < 256) → sent_bits (take 4 (drop i l)) ≡ low_first 32 (from_le_bytes w32 (take 4 (drop i l)))
 four-taken l i h bytes =
     let a = get_or l i 0 in
     let b = get_or l (i + 1) 0 in
@@ -52,14 +53,23 @@ four-taken l i h bytes =
     let n₂ : drop (i + 2) l ≡ c ∷ drop (i + 3) l = rw q at (next l (i + 2) (omega arith)) in
     let n₃ = next l (i + 3) (omega arith) in
     let e : take 4 (drop i l) ≡ a ∷ b ∷ c ∷ d ∷ [] = rw (next l i (omega arith), n₁, n₂, n₃) refl in
-    ap sent_bits e ∙ four-sent a b c d (bytes i) (bytes (i + 1)) (bytes (i + 2)) (bytes (i + 3))
+    ap sent_bits e ∙ four-sent a b c d (bytes i) (bytes (i + 1)) (bytes (i + 2)) (bytes (i + 3)) ∙ ap (λ (t : List ℕ). low_first 32 (from_le_bytes w32 t)) (sym e)
 
-pub four-more : (l : List ℕ) (i from reg reg' : ℕ) {z : ℕ} → i + 4 ≤ length l → ((j : ℕ) → get_or l j 0 < 256) → mirrored reg ≡ through from (sent_bits (take i l)) → z ≡ four_of l i
-    → mirrored reg' ≡ through (mirrored reg) (low_first 32 z) → mirrored reg' ≡ through from (sent_bits (take (i + 4) l))
-four-more l i from reg reg' h bytes er ez e =
-    let four = low_first 32 (four_of l i) in
-    let s : sent_bits (take (i + 4) l) ≡ sent_bits (take i l) ++ four = ap sent_bits (take-add i 4 l) ∙ sent-append (take i l) (take 4 (drop i l)) ∙ ap (sent_bits (take i l) ++◌) (four-taken l i h bytes) in
-    e ∙ ap (λ (x : ℕ). through (mirrored reg) (low_first 32 x)) ez ∙ ap (λ (r : ℕ). through r four) er ∙ sym (ap (through from) s ∙ through-append (sent_bits (take i l)) four from)
+-- the next of the chunks of four bytes, and its number z
+module _ (l : List ℕ) (i k : ℕ) {fours : List (List ℕ)} {z : ℕ} (are : fours ≡ first_chunks 4 k l) (more : i < k) (room : 4 * k ≤ length l) (bytes : (j : ℕ) → get_or l j 0 < 256)
+    (tells : z ≡ from_le_bytes w32 (get_or fours i [])) where
+  pub chunk-sent : sent_bits (take 4 (drop (4 * i) l)) ≡ low_first 32 z
+  chunk-sent =
+      let e : get_or fours i [] ≡ take 4 (drop (4 * i) l) = ap (λ (t : List (List ℕ)). get_or t i []) are ∙ chunk-at 4 k i l more in
+      four-taken l (4 * i) (omega arith) bytes ∙ ap (low_first 32) (sym (tells ∙ ap (from_le_bytes w32) e))
+
+  pub chunk-more : (from reg reg' : ℕ) → mirrored reg ≡ through from (sent_bits (take (4 * i) l)) → mirrored reg' ≡ through (mirrored reg) (low_first 32 z)
+      → mirrored reg' ≡ through from (sent_bits (take (4 * (i + 1)) l))
+  chunk-more from reg reg' er e =
+      let four = sent_bits (take 4 (drop (4 * i) l)) in
+      let m : 4 * (i + 1) ≡ 4 * i + 4 = omega arith in
+      let s : sent_bits (take (4 * (i + 1)) l) ≡ sent_bits (take (4 * i) l) ++ four = ap (λ (n : ℕ). sent_bits (take n l)) m ∙ ap sent_bits (take-add (4 * i) 4 l) ∙ sent-append (take (4 * i) l) (take 4 (drop (4 * i) l)) in
+      e ∙ ap (through (mirrored reg)) (sym chunk-sent) ∙ ap (λ (r : ℕ). through r four) er ∙ sym (ap (through from) s ∙ through-append (sent_bits (take (4 * i) l)) four from)
 
 pub sent-zeros : (n : ℕ) → sent_bits (zeros n) ≡ zeros (8 * n)
 unfolding zeros

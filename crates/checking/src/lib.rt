@@ -6,8 +6,6 @@ ghost use Rattle.std.specs.Prelude.{◌≡◌, ◌+◌, ◌*◌, ◌%◌, ◌≤
 ghost use Rattle.bits.specs.Bits.{low_first, sent_bits};
 ghost use Rattle.checking.specs.Check.{zeros, through, mirrored};
 
-use bits::four_at;
-
 // Four bytes into the register, by one division of both by x^16 + x^12 + x^5 + 1. The first bit stands lowest and has the highest power, so
 // with s for one place up the divisor is 1 + s^4 + s^11 + s^16. The quotient is the word times its inverse as far as s^31, which is
 // (1 + s^4 + s^11 + s^20 + s^27) (1 + s^8 + s^22); what is left are the 16 places after these of the quotient times the divisor.
@@ -26,11 +24,10 @@ fn step_all(bytes: &[u8], from: u16) -> u16
     requires { length bytes.now % 4 ≡ 0 }
     ensures { mirrored result ≡ through (mirrored from) (sent_bits bytes.now) }
 {
+    let (fours, _) = bytes.as_chunks::<4>();
     let mut reg = from;
-    let mut i = 0;
-    while i < bytes.len() {
-        reg = step(reg, four_at(bytes, i));
-        i += 4;
+    for four in fours {
+        reg = step(reg, u32::from_le_bytes(*four));
     }
     reg
 }
@@ -55,7 +52,5 @@ pub fn register_after(bytes: &[u8], n: usize) -> u16
     ensures { mirrored result ≡ through 0xffff (sent_bits (take n (drop 4 bytes.now))) }
 {
     let missing = (24 - n) % 4;
-    let start = 4 - missing;
-    let end = 4 + n;
-    step_all(&bytes[start..end], before(missing))
+    step_all(&bytes[4 - missing..4 + n], before(missing))
 }

@@ -5,11 +5,12 @@
 -- Assumes nothing.
 use mathlib.Core.Path.{◌≡◌, refl, sym, ap, ◌∙◌}
 use mathlib.Core.Bool.{true, false, not, true≢false}
-use mathlib.Core.List.{[], ◌∷◌}
+use mathlib.Core.List.{List, [], ◌∷◌}
 use Prim.Native.Nat.{ℕ, suc, ◌+◌, ◌*◌, ◌%◌, ◌≤◌, ◌<◌}
 use native.Mathlib.Omega.{arith}
 use borrow.Author.Tests.{lt-ltb}
 use lib.Dec.{ltb}
+use lib.ListN.{get_or}
 use Rattle.laws.specs.Tests.{between, ladder}
 use Rattle.laws.proofs.Tests.{was-false, both_right, between_is}
 use Rattle.laws.specs.Exactly.{AllHold, Exactly}
@@ -18,9 +19,15 @@ use Rattle.limits.specs.Limits.{frame_slots, slot_times, least_time_out, most_ti
 use Rattle.plan.specs.declared.Plan.{Plan}
 use Rattle.book.specs.Book.{place}
 use Rattle.book.specs.Planning.{plan_fits}
+use Rattle.std.specs.declared.result.Result.{Result}
+use Rattle.std.specs.declared.result.Result.TheVariants.{Ok, Err}
+use Rattle.numbers.specs.declared.Refusal.{Refusal}
+use Rattle.numbers.specs.Numbers.{number_of}
 use Rattle.candidates.specs.declared.Picked.{Picked}
-use Rattle.candidates.specs.declared.Picked.TheVariants.{At, NoCandidate, SentBack, Taken}
-use Rattle.candidates.specs.Window.{is_no, is_back, distance_in, number_in}
+use Rattle.candidates.specs.declared.Window.{Window}
+use Rattle.candidates.specs.Slot.{View}
+use Rattle.candidates.specs.Choice.{choice}
+use Rattle.candidates.specs.Window.{at, is_no, is_back, distance_in, number_in}
 use Rattle.candidates.proofs.Promised.{pick-is-candidate}
 use Rattle.register.specs.State.{State}
 use Rattle.register.specs.Answers.{Said, did, said, given_number, sized}
@@ -29,7 +36,7 @@ use Rattle.choosing.specs.Choosing.{ask_fits, any_own}
 use Rattle.choosing.specs.Choose.{drawn_in, replaced_in, choose_tests, chooses, choose}
 use Rattle.choosing.specs.ChoosePromises.{view_in, window_in, Draws, Chose, NeverBeyond, ChosenIsCandidate, MarksInTheBook}
 use Rattle.choosing.proofs.Meaning.{near, narrow}
-use Rattle.choosing.proofs.Choosing.{drawn_tests, drawn_slot, not_taken}
+use Rattle.choosing.proofs.Choosing.{drawn_tests, drawn_slot, choice-cases}
 
 pub choose-exactly : (s : State) (a : Wanted) → Exactly (20 ∷ 31 ∷ 30 ∷ 32 ∷ 33 ∷ 34 ∷ 35 ∷ []) given_number (choose_tests s a) (given_number (choose s a))
 unfolding choose choose_tests
@@ -38,12 +45,12 @@ choose-exactly s a =
 
 -- ---- a draw that picks a slot
 
--- what is neither without candidates nor sent back nor a taken window is a slot
-pub is_at : (p : Picked) → (p ≡ Taken → ⊥) → is_no p ≡ false → is_back p ≡ false → p ≡ At (distance_in p) (number_in p)
-is_at (At x n) t e f = refl
-is_at NoCandidate t e f = absurd (true≢false e)
-is_at SentBack t e f = absurd (true≢false f)
-is_at Taken t e f = absurd (t refl)
+-- what is neither without candidates nor sent back is a slot
+pub is_at : (v : View) (w : Window) (d : ℕ) → is_no (choice v w d) ≡ false → is_back (choice v w d) ≡ false
+    → choice v w d ≡ Ok (at (distance_in (choice v w d)) (number_in (choice v w d)))
+is_at =
+    choice-cases (λ p. is_no p ≡ false → is_back p ≡ false → p ≡ Ok (at (distance_in p) (number_in p)))
+    (λ p e f. refl) (λ e f. absurd (true≢false e)) (λ e f. absurd (true≢false f))
 
 -- the time-out that can be asked for
 timeout-most : (p : Plan) (a : Wanted) → ask_fits p a ≡ true → a.timeout ≤ most_time_out
@@ -51,7 +58,7 @@ unfolding ask_fits
 timeout-most p a e = (between_is least_time_out most_time_out a.timeout (both_right (ltb a.k p.rate) (between least_time_out most_time_out a.timeout) e)).1
 
 -- its marks lie in the book
-marks-in : (s : State) (a : Wanted) (x n : ℕ) → ask_fits s.watch.channel.plan a ≡ true → drawn_in s a ≡ At x n → x + frame_slots * a.timeout < slot_times
+marks-in : (s : State) (a : Wanted) (x n : ℕ) → ask_fits s.watch.channel.plan a ≡ true → drawn_in s a ≡ Ok (at x n) → x + frame_slots * a.timeout < slot_times
 marks-in s a x n asked drawn =
     let w = window_in s a in
     let picks = pick-is-candidate (view_in s) w a.draw x n drawn in
@@ -74,47 +81,50 @@ module _ (s : State) (a : Wanted) where
   comes-to-draw h = record { sizes = h.0; planned = h.1.0; asked = h.1.1.0; unmarked = was-false h.1.1.1.0 }
 
   -- what is said then, by what is drawn
-  abbrev pub said_of : Picked → Said
-  said_of (At x n) =
-      did (x ∷ (place s.watch.present x % frame_slots) ∷ n ∷ replaced_in s.book s.watch.present x (suc a.timeout) ∷ [])
-  said_of NoCandidate = record { number = 33; values = [] }
-  said_of SentBack = record { number = 34; values = [] }
-  said_of Taken = record { number = 32; values = [] }
+  abbrev pub said_of : Result Picked Refusal → Said
+  said_of (Ok p) =
+      did (p.distance ∷ (place s.watch.present p.distance % frame_slots) ∷ p.candidates ∷ replaced_in s.book s.watch.present p.distance (suc a.timeout) ∷ [])
+  said_of (Err r) = record { number = number_of r; values = [] }
 
-  says : (p : Picked) → (p ≡ Taken → ⊥) → ((x n : ℕ) → p ≡ At x n → x + frame_slots * a.timeout < slot_times)
-      → said (ladder (drawn_tests s a.timeout p) (drawn_slot s a.timeout p)).answer ≡ said_of p
-  says (At x n) t l = rw (lt-ltb (x + frame_slots * a.timeout) slot_times (l x n refl))
-  says NoCandidate t l = refl
-  says SentBack t l = refl
-  says Taken t l = absurd (t refl)
+  says : (v : View) (w : Window) (d : ℕ) → ((x n : ℕ) → choice v w d ≡ Ok (at x n) → x + frame_slots * a.timeout < slot_times)
+      → said (ladder (drawn_tests s a.timeout (choice v w d)) (drawn_slot s a.timeout (choice v w d))).answer ≡ said_of (choice v w d)
+  says =
+      choice-cases (λ p. ((x n : ℕ) → p ≡ Ok (at x n) → x + frame_slots * a.timeout < slot_times)
+      → said (ladder (drawn_tests s a.timeout p) (drawn_slot s a.timeout p)).answer ≡ said_of p)
+      (λ p l. rw (lt-ltb (p.distance + frame_slots * a.timeout) slot_times (l p.distance p.candidates refl))) (λ l. refl) (λ l. refl)
 
   pub draw-says : Draws s a → said (choose s a).answer ≡ said_of (drawn_in s a)
   unfolding choose choose_tests
   draw-says r =
       rw (r.sizes, r.planned, r.asked, r.unmarked)
-      (says (drawn_in s a) (not_taken _ _ _) (λ x n e. marks-in s a x n r.asked e))
+      (says _ _ _ (λ x n e. marks-in s a x n r.asked e))
 
 -- 35 is not among it
-not_beyond : (s : State) (a : Wanted) (p : Picked) → (said_of s a p).number ≡ 35 → ⊥
-not_beyond s a (At x n) e = omega arith
-not_beyond s a NoCandidate e = omega arith
-not_beyond s a SentBack e = omega arith
-not_beyond s a Taken e = omega arith
+not_beyond : (s : State) (a : Wanted) (v : View) (w : Window) (d : ℕ) → (said_of s a (choice v w d)).number ≡ 35 → ⊥
+not_beyond s a = choice-cases (λ p. (said_of s a p).number ≡ 35 → ⊥) (λ p e. omega arith) (λ e. omega arith) (λ e. omega arith)
 
 pub never-beyond : NeverBeyond
 unfolding choose_tests
 never-beyond s a e =
     let draws = comes-to-draw s a (stops-there _ _ 35 6 (omega arith) tt (((choose-exactly s a).given 35 (omega arith)).0 e)) in
-    not_beyond s a (drawn_in s a) (sym (ap (λ (t : Said). t.number) (draw-says s a draws)) ∙ e)
+    not_beyond s a _ _ _ (sym (ap (λ (t : Said). t.number) (draw-says s a draws)) ∙ e)
 
 -- ---- a slot that was chosen
 
 -- only a slot that is drawn is said to be one
-drawn-by : (s : State) (a : Wanted) (x slot n m : ℕ) (p : Picked) → said_of s a p ≡ did (x ∷ slot ∷ n ∷ m ∷ []) → p ≡ At x n
-drawn-by s a x slot n m (At y k) e = let values = ap (λ (t : Said). t.values) e in cc
-drawn-by s a x slot n m NoCandidate e = absurd (omega (arith, ap (λ (t : Said). t.number) e))
-drawn-by s a x slot n m SentBack e = absurd (omega (arith, ap (λ (t : Said). t.number) e))
-drawn-by s a x slot n m Taken e = absurd (omega (arith, ap (λ (t : Said). t.number) e))
+drawn-by : (s : State) (a : Wanted) (x slot n m : ℕ) (v : View) (w : Window) (d : ℕ) → said_of s a (choice v w d) ≡ did (x ∷ slot ∷ n ∷ m ∷ [])
+    → choice v w d ≡ Ok (at x n)
+drawn-by s a x slot n m =
+    choice-cases (λ p. said_of s a p ≡ did (x ∷ slot ∷ n ∷ m ∷ []) → p ≡ Ok (at x n))
+    (λ p e. by p (ap (λ (t : Said). t.values) e))
+    (λ e. absurd (omega (arith, ap (λ (t : Said). t.number) e)))
+    (λ e. absurd (omega (arith, ap (λ (t : Said). t.number) e)))
+  where
+    by : (p : Picked) → (said_of s a (Ok p)).values ≡ x ∷ slot ∷ n ∷ m ∷ [] → ◌≡◌ {A = Result Picked Refusal} (Ok p) (Ok (at x n))
+    by p values =
+        let y : p.distance ≡ x = ap (λ (l : List ℕ). get_or l 0 0) values in
+        let k : p.candidates ≡ n = ap (λ (l : List ℕ). get_or l 2 0) values in
+        λ i. Ok (at (y i) (k i))
 
 module _ (s : State) (a : Wanted) (x slot n m : ℕ) (e : Chose s a x slot n m) where
   -- every test held
@@ -135,11 +145,11 @@ module _ (s : State) (a : Wanted) (x slot n m : ℕ) (e : Chose s a x slot n m) 
   drawn-says : said_of s a (drawn_in s a) ≡ did (x ∷ slot ∷ n ∷ m ∷ [])
   drawn-says = sym (draw-says s a draws) ∙ e
 
-  pub drawn : drawn_in s a ≡ At x n
-  drawn = drawn-by s a x slot n m (drawn_in s a) drawn-says
+  pub drawn : drawn_in s a ≡ Ok (at x n)
+  drawn = drawn-by s a x slot n m _ _ _ drawn-says
 
-  values : (said_of s a (At x n)).values ≡ x ∷ slot ∷ n ∷ m ∷ []
-  values = ap (λ (p : Picked). (said_of s a p).values) (sym drawn) ∙ ap (λ (t : Said). t.values) drawn-says
+  values : (said_of s a (Ok (at x n))).values ≡ x ∷ slot ∷ n ∷ m ∷ []
+  values = ap (λ (p : Result Picked Refusal). (said_of s a p).values) (sym drawn) ∙ ap (λ (t : Said). t.values) drawn-says
 
 pub chosen-is-candidate : ChosenIsCandidate
 chosen-is-candidate s a x slot n m e =

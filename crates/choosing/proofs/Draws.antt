@@ -13,11 +13,13 @@ use Rattle.laws.proofs.Tests.{by-test, both_left, both_right}
 use Rattle.laws.proofs.Sums.{one-false}
 use Rattle.laws.proofs.Ladder.{stops-there}
 use Rattle.distance.specs.Distance.{top}
-use Rattle.candidates.specs.declared.SlotState.{SlotState}
-use Rattle.candidates.specs.declared.SlotState.TheVariants.{Free}
+use Rattle.std.specs.declared.result.Result.{Result}
+use Rattle.std.specs.declared.result.Result.TheVariants.{Ok, Err}
+use Rattle.numbers.specs.declared.Refusal.{Refusal}
+use Rattle.numbers.specs.declared.Refusal.TheVariants.{NoCandidate}
 use Rattle.candidates.specs.declared.Picked.{Picked}
-use Rattle.candidates.specs.declared.Picked.TheVariants.{At, NoCandidate, SentBack, Taken}
-use Rattle.candidates.specs.Slot.{View, is_none, earlier, frame, state_of}
+use Rattle.candidates.specs.declared.Window.{Window}
+use Rattle.candidates.specs.Slot.{SlotState, Free, View, is_none, earlier, frame, state_of}
 use Rattle.candidates.specs.Scanning.{free_at}
 use Rattle.candidates.specs.Window.{worth, is_free, is_back, is_at}
 use Rattle.candidates.specs.Choice.{choice}
@@ -47,28 +49,22 @@ use Rattle.choosing.specs.ChoosePromises.{
   NumberOfCandidates,
 }
 use Rattle.choosing.proofs.Meaning.{narrow}
+use Rattle.choosing.proofs.Choosing.{choice-cases}
 use Rattle.choosing.proofs.Chosen.{choose-exactly, comes-to-draw, said_of, draw-says, chosen-is-candidate}
 
 -- ---- what is said, as tests on what is drawn
 
 module _ (s : State) (a : Wanted) where
-  says_slot : (x : ℕ) (p : Picked) → is_slot x (said_of s a p) ≡ is_at x p
-  says_slot x (At y n) = refl
-  says_slot x NoCandidate = refl
-  says_slot x SentBack = refl
-  says_slot x Taken = refl
+  says_slot : (x : ℕ) (v : View) (w : Window) (d : ℕ) → is_slot x (said_of s a (choice v w d)) ≡ is_at x (choice v w d)
+  says_slot x = choice-cases (λ p. is_slot x (said_of s a p) ≡ is_at x p) (λ p. refl) refl refl
 
-  says_back : (p : Picked) → eqb (said_of s a p).number 34 ≡ is_back p
-  says_back (At y n) = refl
-  says_back NoCandidate = refl
-  says_back SentBack = refl
-  says_back Taken = refl
+  says_back : (p : Result Picked Refusal) → eqb (said_of s a p).number 34 ≡ is_back p
+  says_back (Ok p) = refl
+  says_back (Err r) = refl
 
-  says_none : (p : Picked) → (said_of s a p).number ≡ 33 → p ≡ NoCandidate
-  says_none (At y n) e = absurd (omega arith)
-  says_none NoCandidate e = refl
-  says_none SentBack e = absurd (omega arith)
-  says_none Taken e = absurd (omega arith)
+  says_none : (v : View) (w : Window) (d : ℕ) → (said_of s a (choice v w d)).number ≡ 33 → choice v w d ≡ Err NoCandidate
+  says_none =
+      choice-cases (λ p. (said_of s a p).number ≡ 33 → p ≡ Err NoCandidate) (λ p e. absurd (omega arith)) (λ e. refl) (λ e. absurd (omega arith))
 
 -- ---- all draws
 
@@ -83,7 +79,7 @@ module _ (s : State) (a : Wanted) (r : Draws s a) where
   said-of d = draw-says s (with_draw a d) (redrawn d)
 
   slot-drawn : (x d : ℕ) → is_slot x (said (choose s (with_draw a d)).answer) ≡ is_at x (choice (view_in s) (window_in s a) d)
-  slot-drawn x d = ap (is_slot x) (said-of d) ∙ says_slot s (with_draw a d) x (choice (view_in s) (window_in s a) d)
+  slot-drawn x d = ap (is_slot x) (said-of d) ∙ says_slot s (with_draw a d) x (view_in s) (window_in s a) d
 
   back-drawn : (d : ℕ) → eqb (given_number (choose s (with_draw a d))) 34 ≡ is_back (choice (view_in s) (window_in s a) d)
   back-drawn d = ap (λ (t : Said). eqb t.number 34) (said-of d) ∙ says_back s (with_draw a d) (choice (view_in s) (window_in s a) d)
@@ -103,8 +99,8 @@ none-exactly s a =
     let number : Draws s a → given_number (choose s a) ≡ (said_of s a (drawn_in s a)).number = λ r. ap (λ (t : Said). t.number) (draw-says s a r) in (
       (λ e.
           let draws = comes-to-draw s a (stops-there _ _ 33 4 (omega arith) tt (((choose-exactly s a).given 33 (omega arith)).0 e)) in
-          (draws, none.0 (says_none s a (drawn_in s a) (sym (number draws) ∙ e)))),
-      (λ h. number h.0 ∙ ap (λ (p : Picked). (said_of s a p).number) (none.1 h.1)),
+          (draws, none.0 (says_none s a _ _ _ (sym (number draws) ∙ e)))),
+      (λ h. number h.0 ∙ ap (λ (p : Result Picked Refusal). (said_of s a p).number) (none.1 h.1)),
     )
 
 -- ---- the rule of four

@@ -1,6 +1,4 @@
--- The run over the frames of an own slot: how far it is after so many of them, that it starts so, that a turn keeps it, and what it ends with.
---     Upto       how far the run is where a slot was drawn
---     Going      the same whatever was drawn: where nothing was, nothing has happened
+-- The run over the frames of an own slot: that it starts as far as specs/Owning.antt says (`Upto`), that a turn keeps that, and what it ends with.
 -- Assumes nothing.
 use mathlib.Core.Path.{◌≡◌, refl, sym, ap, ◌∙◌}
 use mathlib.Core.Bool.{not}
@@ -19,18 +17,16 @@ use Rattle.book.specs.declared.Counts.{Counts}
 use Rattle.book.specs.declared.Handing.{Handing}
 use Rattle.book.specs.Book.{Book, ours, place, put_at, Puts}
 use Rattle.candidates.specs.Slot.{is_none, holder_at}
-use Rattle.register.specs.declared.Slot.{Slot}
 use Rattle.register.specs.declared.Turn.{Turn}
-use Rattle.register.specs.declared.Reply.{Reply}
+use Rattle.std.specs.declared.result.Result.TheVariants.{Ok}
+use Rattle.register.specs.declared.Answer.TheVariants.{Chosen}
 use Rattle.register.specs.State.{State, state_of, with_counts, owned}
 use Rattle.register.proofs.Settling.{both-followed}
 use Rattle.register.proofs.Owning.{owned-is}
-use Rattle.walks.specs.Out.{Out, out, Ends}
-use Rattle.choosing.specs.declared.own.Drawn.{Drawn}
-use Rattle.choosing.specs.declared.own.Drawn.TheVariants.{At as DrawnAt, Refused as NotDrawn}
+use Rattle.walks.specs.Out.{Ends}
 use Rattle.choosing.specs.declared.own.Owning.{Owning}
 use Rattle.choosing.specs.Choose.{replaced_in}
-use Rattle.choosing.specs.Owning.{started_by, Steps, OwnsOne, answer_by, InBook, owned_in, owned_state, replaced_by}
+use Rattle.choosing.specs.Owning.{started, Steps, OwnsOne, Upto, reply_of, with_replaced, owned_in, owned_out}
 
 -- ---- places and marks
 
@@ -58,56 +54,33 @@ module _ (bs : List ℕ) (present x : ℕ) where
   unfolding replaced_in holder_at
   replaced-more n m k e f = f ∙ many_more (λ i. not (is_none (get_or bs (place present (x + frame_slots * i)) 0))) n m _ e refl
 
--- ---- how far the run is
-
--- so many frames of the slot c are done: the state, the marks replaced, and that the times from the next frame on are held as at the start
-pub record Upto (o : Owning) (c : Slot) (ys : List Station) (bs : List ℕ) (t : Turn) (zs : List Station) (cs : List ℕ) : Type 0 where
-  pub done : ℕ
-  pub left : t.left + done ≡ o.frames
-  pub at : t.at ≡ c.distance + frame_slots * done
-  pub state : state_of zs cs (with_counts o.watch t.handing.counts) ≡ owned_in (state_of ys bs o.watch) c.distance done
-  pub marks : t.marks ≡ replaced_in bs o.watch.present c.distance done
-  pub later : (d : ℕ) → c.distance + frame_slots * done ≤ d → d < slot_times
-      → get_or cs (place o.watch.present d) 0 ≡ get_or bs (place o.watch.present d) 0
-
--- nothing has happened
-pub record Still (o : Owning) (ys : List Station) (bs : List ℕ) (t : Turn) (zs : List Station) (cs : List ℕ) : Type 0 where
-  pub left : t.left ≡ 0
-  pub counts : t.handing.counts ≡ o.watch.channel.counts
-  pub reg : zs ≡ ys
-  pub book : cs ≡ bs
-
-abbrev pub Going : Drawn → Owning → List Station → List ℕ → Turn → List Station → List ℕ → Type 0
-Going (DrawnAt c) = λ o ys bs t zs cs. Upto o c ys bs t zs cs
-Going (NotDrawn r) = λ o ys bs t zs cs. Still o ys bs t zs cs
-
 -- ---- it starts
 
-pub starts : (d : Drawn) (o : Owning) (ys : List Station) (bs : List ℕ) → Going d o ys bs (started_by d o) ys bs
+pub starts : (o : Owning) (ys : List Station) (bs : List ℕ) → o.slot.distance + frame_slots * o.frames < slot_times + frame_slots → Upto o ys bs (started o) ys bs
 unfolding upto
-starts (DrawnAt c) o ys bs =
+starts o ys bs inside =
     record {
+      inside = inside;
       done = 0;
       left = omega arith;
       at = omega arith;
       state = refl;
-      marks = replaced-none bs o.watch.present c.distance;
+      marks = replaced-none bs o.watch.present o.slot.distance;
       later = λ d l m. refl;
     }
-starts (NotDrawn r) o ys bs = record { left = refl; counts = refl; reg = refl; book = refl }
 
 -- ---- a turn
 
-module _ (o : Owning) (c : Slot) (ys : List Station) (bs : List ℕ) (t : Turn) (zs : List Station) (cs : List ℕ) (i : Upto o c ys bs t zs cs)
-    (inside : c.distance + frame_slots * o.frames < slot_times + frame_slots) (some : 0 < t.left) where
+module _ (o : Owning) (ys : List Station) (bs : List ℕ) (t : Turn) (zs : List Station) (cs : List ℕ) (i : Upto o ys bs t zs cs)
+    (some : 0 < t.left) where
   abbrev now : ℕ
   now = o.watch.present
 
   -- the next time lies in the book
-  below : c.distance + frame_slots * i.done < slot_times
-  below = let l = i.left in omega arith
+  below : o.slot.distance + frame_slots * i.done < slot_times
+  below = let l = i.left in omega (arith, i.inside)
 
-  step-met : length cs ≡ slot_times → Steps cs t
+  pub step-met : length cs ≡ slot_times → Steps cs t
   step-met size =
       let l = i.left in
       let at = i.at in
@@ -115,44 +88,45 @@ module _ (o : Owning) (c : Slot) (ys : List Station) (bs : List ℕ) (t : Turn) 
         size = size;
         below = omega (arith, below);
         some = some;
-        few = let m = i.marks in omega (arith, replaced-most bs now c.distance i.done);
+        few = let m = i.marks in omega (arith, replaced-most bs now o.slot.distance i.done);
       }
 
   module _ (u : Turn) (ds : List ℕ) (one-owned : OwnsOne cs t o u ds) (many : length zs ≡ records) where
     -- the place that becomes ours
     abbrev here : ℕ
-    here = place now (c.distance + frame_slots * i.done)
+    here = place now (o.slot.distance + frame_slots * i.done)
 
     is-here : place now t.at ≡ here
     is-here = ap (place now) i.at
 
     -- it is held as at the start
     held : get_or cs (place now t.at) 0 ≡ get_or bs here 0
-    held = ap (λ (k : ℕ). get_or cs k 0) is-here ∙ i.later (c.distance + frame_slots * i.done) (omega arith) below
+    held = ap (λ (k : ℕ). get_or cs k 0) is-here ∙ i.later (o.slot.distance + frame_slots * i.done) (omega arith) below
 
-    state-after : state_of (both-followed zs u) ds (with_counts o.watch u.handing.counts) ≡ owned_in (state_of ys bs o.watch) c.distance (i.done + 1)
+    state-after : state_of (both-followed zs u) ds (with_counts o.watch u.handing.counts) ≡ owned_in (state_of ys bs o.watch) o.slot.distance (i.done + 1)
     state-after =
         let s : State = state_of zs cs (with_counts o.watch t.handing.counts) in
-        let turn : State → ℕ → State = λ v j. owned v (place now (c.distance + frame_slots * j)) in
+        let turn : State → ℕ → State = λ v j. owned v (place now (o.slot.distance + frame_slots * j)) in
         let is = owned-is s u (place now t.at) ds many one-owned.puts one-owned.old one-owned.new in
         upto-more turn (state_of ys bs o.watch) i.done s _ i.state (sym is ∙ ap (owned s) is-here)
 
-    marks-after : u.marks ≡ replaced_in bs now c.distance (i.done + 1)
+    marks-after : u.marks ≡ replaced_in bs now o.slot.distance (i.done + 1)
     marks-after =
-        replaced-more bs now c.distance i.done t.marks u.marks i.marks
+        replaced-more bs now o.slot.distance i.done t.marks u.marks i.marks
         (one-owned.counted ∙ ap (λ (h : ℕ). t.marks + one (not (is_none h))) held)
 
-    later-after : (d : ℕ) → c.distance + frame_slots * (i.done + 1) ≤ d → d < slot_times → get_or ds (place now d) 0 ≡ get_or bs (place now d) 0
+    later-after : (d : ℕ) → o.slot.distance + frame_slots * (i.done + 1) ≤ d → d < slot_times → get_or ds (place now d) 0 ≡ get_or bs (place now d) 0
     later-after d l m =
         let slots : ds ≡ set cs here ours = put-slots cs ds t.handing.counts u.handing (place now t.at) one-owned.puts ∙ ap (λ (k : ℕ). set cs k ours) is-here in
-        let away : place now d ≡ here → ⊥ = λ e. omega (arith, apart now d (c.distance + frame_slots * i.done) m below e) in
+        let away : place now d ≡ here → ⊥ = λ e. omega (arith, apart now d (o.slot.distance + frame_slots * i.done) m below e) in
         ap (λ (l : List ℕ). get_or l (place now d) 0) slots ∙ get_or-set_other cs here (place now d) ours 0 away ∙ i.later d (omega arith) m
 
-    pub upto-turns : Upto o c ys bs u (both-followed zs u) ds
+    pub upto-turns : Upto o ys bs u (both-followed zs u) ds
     upto-turns =
         let l = i.left in
         let less = one-owned.less in
         record {
+          inside = i.inside;
           done = i.done + 1;
           left = omega arith;
           at = let a = i.at in let n = one-owned.next in omega arith;
@@ -161,40 +135,17 @@ module _ (o : Owning) (c : Slot) (ys : List Station) (bs : List ℕ) (t : Turn) 
           later = later-after;
         }
 
--- ---- whatever was drawn
+-- ---- it ends
 
-module _ (o : Owning) (ys : List Station) (bs : List ℕ) (t : Turn) (zs : List Station) (cs : List ℕ) where
-  pub for-step : (d : Drawn) → Going d o ys bs t zs cs → InBook d o.frames → length cs ≡ slot_times → 0 < t.left → Steps cs t
-  for-step (DrawnAt c) i inside size some = step-met o c ys bs t zs cs i inside some size
-  for-step (NotDrawn r) i inside size some = let l = i.left in absurd (omega arith)
-
-  pub turns : (d : Drawn) → Going d o ys bs t zs cs → InBook d o.frames → 0 < t.left → (u : Turn) (ds : List ℕ) → OwnsOne cs t o u ds
-      → length zs ≡ records → Going d o ys bs u (both-followed zs u) ds
-  turns (DrawnAt c) i inside some u ds one-owned many = upto-turns o c ys bs t zs cs i inside some u ds one-owned many
-  turns (NotDrawn r) i inside some u ds one-owned many = let l = i.left in absurd (omega arith)
-
-  -- what is answered and left, the drawn slot being d
-  abbrev pub OutBy : Drawn → Out Reply
-  OutBy d =
-      let s = state_of ys bs o.watch in
-      let v = owned_state d o.frames s in
-      out (record { watch = v.watch; answer = answer_by d (replaced_by d o.frames s) }) v.reg v.book
-
-  pub ends : (d : Drawn) → Going d o ys bs t zs cs → t.left ≡ 0
-      → Ends (OutBy d) (record { watch = with_counts o.watch t.handing.counts; answer = answer_by d t.marks }) zs cs
-  ends (DrawnAt c) i z =
-      let l = i.left in
-      let all : i.done ≡ o.frames = omega arith in
-      let state = i.state ∙ ap (owned_in (state_of ys bs o.watch) c.distance) all in
-      let marks = i.marks ∙ ap (replaced_in bs o.watch.present c.distance) all in
-      record {
-        answers = λ j. record { watch = (state j).watch; answer = answer_by (DrawnAt c) (marks j) };
-        leaves = ap (λ (v : State). v.reg) state;
-        writes = ap (λ (v : State). v.book) state;
-      }
-  ends (NotDrawn r) i z =
-      record {
-        answers = λ j. record { watch = with_counts o.watch (i.counts j); answer = answer_by (NotDrawn r) 0 };
-        leaves = i.reg;
-        writes = i.book;
-      }
+pub ends : (o : Owning) (ys : List Station) (bs : List ℕ) (t : Turn) (zs : List Station) (cs : List ℕ) → Upto o ys bs t zs cs → t.left ≡ 0
+    → Ends (owned_out o ys bs) (reply_of o t) zs cs
+ends o ys bs t zs cs i z =
+    let l = i.left in
+    let all : i.done ≡ o.frames = omega arith in
+    let state = i.state ∙ ap (owned_in (state_of ys bs o.watch) o.slot.distance) all in
+    let marks = i.marks ∙ ap (replaced_in bs o.watch.present o.slot.distance) all in
+    record {
+      answers = λ j. record { watch = (state j).watch; answer = Ok (Chosen (with_replaced o.slot (marks j))) };
+      leaves = ap (λ (v : State). v.reg) state;
+      writes = ap (λ (v : State). v.book) state;
+    }

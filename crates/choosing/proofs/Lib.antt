@@ -1,6 +1,5 @@
 pub mod Meaning
 pub mod Asking
-pub mod Drawing
 pub mod Loops
 pub mod Promised
 pub mod Frames

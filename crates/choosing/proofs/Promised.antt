@@ -13,8 +13,13 @@ use Rattle.book.specs.declared.Watch.{Watch}
 use Rattle.walks.proofs.Folds.{folded-none}
 use Rattle.distance.specs.Distance.{we_known}
 use Rattle.candidates.specs.declared.Window.{Window}
+use Rattle.std.specs.declared.option.Option.TheVariants.{None, Some}
+use Rattle.std.specs.declared.result.Result.{Result}
+use Rattle.std.specs.declared.result.Result.TheVariants.{Ok, Err}
+use Rattle.numbers.specs.declared.Refusal.{Refusal}
+use Rattle.numbers.specs.declared.Refusal.TheVariants.{WindowTaken}
+use Rattle.numbers.specs.Numbers.{number_of}
 use Rattle.candidates.specs.declared.Picked.{Picked}
-use Rattle.candidates.specs.declared.Picked.TheVariants.{At, NoCandidate, SentBack, Taken}
 use Rattle.candidates.specs.Slot.{View}
 use Rattle.candidates.specs.Rounds.{BestIn}
 use Rattle.candidates.specs.Choice.{worth_in, choice}
@@ -24,7 +29,7 @@ use Rattle.candidates.proofs.Sameness.{best_after, best_of, lost-best, drawn-is}
 use Rattle.choosing.specs.declared.Wanted.{Wanted}
 use Rattle.choosing.specs.declared.Query.{Query}
 use Rattle.choosing.specs.Choosing.{window_of, any_own, view_of, picked_in}
-use Rattle.choosing.specs.Scanning.{asked, turns_of, scanned, judged}
+use Rattle.choosing.specs.Scanning.{free_unless_own, asked, turns_of, scanned, judged}
 use Rattle.choosing.specs.Promises.{FindsTheChoice, PickedIsCandidate, PickedInTheBook}
 use Rattle.choosing.proofs.Meaning.{near, narrow, timed as for-time-out}
 use Rattle.choosing.proofs.Asking.{turns-lost, turns-all, judged-taken, judged-drawn}
@@ -47,9 +52,14 @@ module _ (reg : List Station) (slots : List ℕ) (w : Watch) (a : Wanted) (m : a
   timed : x.timeout < most_time_out + 1
   timed = omega (arith, m, for-time-out w.present w.channel.plan a.k a.timeout x refl)
 
-  taken_is : q.taken ≡ any_own slots x
-  unfolding asked
-  taken_is = refl
+  -- where the window is taken, and where it is not
+  none-free : any_own slots x ≡ true → q.free ≡ None
+  unfolding asked free_unless_own
+  none-free t = simp t
+
+  some-free : any_own slots x ≡ false → q.free ≡ Some (free_upto_four slots x)
+  unfolding asked free_unless_own
+  some-free t = simp t
 
   window-is : q.window ≡ x
   unfolding asked
@@ -67,7 +77,7 @@ module _ (reg : List Station) (slots : List ℕ) (w : Watch) (a : Wanted) (m : a
   unfolding scanned asked
   scanned-is = refl
 
-  picked-taken : any_own slots x ≡ true → picked_in reg slots w a ≡ Taken
+  picked-taken : any_own slots x ≡ true → picked_in reg slots w a ≡ Err WindowTaken
   unfolding picked_in
   picked-taken t = simp t
 
@@ -77,10 +87,6 @@ module _ (reg : List Station) (slots : List ℕ) (w : Watch) (a : Wanted) (m : a
 
   -- the window is not taken
   module _ (t : any_own slots x ≡ false) where
-    free-is : q.free ≡ free_upto_four slots x
-    unfolding asked
-    free-is = simp t
-
     best : free_upto_four slots x < 4 → BestIn (worth_in v x) x.width (scanned reg slots q)
     best l = by-test (we_known w.ship) known lost
       where
@@ -89,32 +95,33 @@ module _ (reg : List Station) (slots : List ℕ) (w : Watch) (a : Wanted) (m : a
             subst (BestIn (worth_in v x) x.width) (sym (scanned-is ∙ ap (best_after v x) (sym turns))) (best_of v x k x.width (omega (arith, fits)))
           where
             turns : x.width ≡ turns_of q
-            turns = ap (λ (y : Window). y.width) (sym window-is) ∙ turns-all q (taken_is ∙ t) (omega (arith, free-is, l)) (ap (λ (y : Watch). we_known y.ship) watch-is ∙ k)
+            turns =
+                ap (λ (y : Window). y.width) (sym window-is)
+                ∙ sym (turns-all q (free_upto_four slots x) (some-free t) (omega (arith, l)) (ap (λ (y : Watch). we_known y.ship) watch-is ∙ k))
 
         lost : we_known w.ship ≡ false → BestIn (worth_in v x) x.width (scanned reg slots q)
         lost k = subst (BestIn (worth_in v x) x.width) (sym (scanned-is ∙ ap (best_after v x) (sym turns) ∙ none)) (lost-best v x k x.width (omega (arith, fits)))
           where
             turns : 0 ≡ turns_of q
-            turns = turns-lost q (taken_is ∙ t) (omega (arith, free-is, l)) (ap (λ (y : Watch). we_known y.ship) watch-is ∙ k)
+            turns = sym (turns-lost q (free_upto_four slots x) (some-free t) (omega (arith, l)) (ap (λ (y : Watch). we_known y.ship) watch-is ∙ k))
 
             none : best_after v x 0 ≡ none_yet
             none = sym (folded-none _ _ _ _)
 
     found : judged slots q (scanned reg slots q) ≡ choice v x a.draw
     found =
-        sym (judged-drawn slots q (scanned reg slots q) (taken_is ∙ t) (choice v x a.draw) (sym drawn-so))
+        judged-drawn slots q (scanned reg slots q) (free_upto_four slots x) (some-free t) ∙ drawn-so
       where
-        drawn-so : drawn slots q.window q.free (scanned reg slots q) q.draw ≡ choice v x a.draw
+        drawn-so : drawn slots q.window (free_upto_four slots x) (scanned reg slots q) q.draw ≡ choice v x a.draw
         drawn-so =
-            ap (λ (y : Window). drawn slots y q.free (scanned reg slots q) q.draw) window-is
-            ∙ ap (λ (f : ℕ). drawn slots x f (scanned reg slots q) q.draw) free-is
+            ap (λ (y : Window). drawn slots y (free_upto_four slots x) (scanned reg slots q) q.draw) window-is
             ∙ ap (drawn slots x (free_upto_four slots x) (scanned reg slots q)) draw-is
             ∙ drawn-is v x fits (scanned reg slots q) best a.draw
 
   finds : judged slots q (scanned reg slots q) ≡ picked_in reg slots w a
   finds =
       by-test (any_own slots x)
-      (λ t. sym (judged-taken slots q (scanned reg slots q) (taken_is ∙ t)) ∙ sym (picked-taken t))
+      (λ t. judged-taken slots q (scanned reg slots q) (none-free t) ∙ sym (picked-taken t))
       (λ t. found t ∙ sym (picked-drawn t))
 
 pub finds-the-choice : FindsTheChoice
@@ -123,19 +130,17 @@ finds-the-choice = finds
 -- ---- what is picked
 
 -- the answers as numbers, to tell them apart
-abbrev answer : Picked → ℕ
-answer (At x n) = 0
-answer NoCandidate = 1
-answer SentBack = 2
-answer Taken = 3
+abbrev answer : Result Picked Refusal → ℕ
+answer (Ok p) = 0
+answer (Err r) = number_of r
 
 pub picked-is-candidate : PickedIsCandidate
 unfolding picked_in
 picked-is-candidate reg slots w a x n e =
     by-test (any_own slots (window_of w a))
-    (λ t. absurd (omega (arith, ap answer (sym (ap (λ (b : Bool). pick b Taken (choice (view_of reg slots w) (window_of w a) a.draw)) t) ∙ e))))
+    (λ t. absurd (omega (arith, ap answer (sym (ap (λ (b : Bool). pick b (Err WindowTaken) (choice (view_of reg slots w) (window_of w a) a.draw)) t) ∙ e))))
     (λ t. pick-is-candidate (view_of reg slots w) (window_of w a) a.draw x n
-    (sym (ap (λ (b : Bool). pick b Taken (choice (view_of reg slots w) (window_of w a) a.draw)) t) ∙ e))
+    (sym (ap (λ (b : Bool). pick b (Err WindowTaken) (choice (view_of reg slots w) (window_of w a) a.draw)) t) ∙ e))
 
 pub picked-in-the-book : PickedInTheBook
 picked-in-the-book reg slots w a x n m e =

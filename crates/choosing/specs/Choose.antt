@@ -1,11 +1,13 @@
 -- Choosing an own slot, in the words of document 01.
 -- Assumes nothing.
 use Rattle.std.specs.Prelude.{ℕ, suc, ◌+◌, ◌*◌, ◌%◌, Bool, not, List, [], ◌∷◌, ltb}
+use Rattle.std.specs.declared.result.Result.{Result}
 use Rattle.laws.specs.Tests.{ladder}
 use Rattle.laws.specs.Loops.{upto}
 use Rattle.laws.specs.Ranges.{how_many}
 use Rattle.limits.specs.Limits.{frame_slots, slot_times}
-use Rattle.numbers.specs.declared.Refusal.TheVariants.{OtherLength, OutOfRange, NoPlan, WindowTaken, NoCandidate as NoneThere, DrawBack, BeyondBook}
+use Rattle.numbers.specs.declared.Refusal.{Refusal}
+use Rattle.numbers.specs.declared.Refusal.TheVariants.{OtherLength, OutOfRange, NoPlan, WindowTaken, NoCandidate, DrawBack, BeyondBook}
 use Rattle.book.specs.Book.{place}
 use Rattle.book.specs.Planning.{plan_fits}
 use Rattle.candidates.specs.declared.Picked.{Picked}
@@ -19,7 +21,7 @@ use Rattle.choosing.specs.declared.Wanted.{Wanted}
 use Rattle.choosing.specs.Choosing.{ask_fits, window_of, any_own, view_of}
 
 -- the slot that the draw picks in the window meant
-abbrev pub drawn_in : State → Wanted → Picked
+abbrev pub drawn_in : State → Wanted → Result Picked Refusal
 drawn_in s a = choice (view_of s.reg s.book s.watch) (window_of s.watch a) a.draw
 
 -- the slot x ahead is marked own at 0, 1, .. m frames after; each station whose mark is replaced is held off
@@ -34,7 +36,7 @@ replaced_in slots present d n = how_many (λ i. not (is_none (holder_at slots pr
 abbrev pub draw_tests : State → Wanted → List (Bool × Answered)
 draw_tests s a =
     (not (any_own s.book (window_of s.watch a)), no s WindowTaken)
-    ∷ (not (is_no (drawn_in s a)), no s NoneThere)
+    ∷ (not (is_no (drawn_in s a)), no s NoCandidate)
     ∷ (not (is_back (drawn_in s a)), no s DrawBack)
     ∷ (ltb (distance_in (drawn_in s a) + frame_slots * a.timeout) slot_times, no s BeyondBook)
     ∷ []

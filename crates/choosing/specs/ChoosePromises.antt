@@ -8,10 +8,8 @@ use Rattle.limits.specs.Limits.{frame_slots, slot_times, records, hold_off}
 use Rattle.ship.specs.Ship.{blank}
 use Rattle.book.specs.Book.{place}
 use Rattle.book.specs.Planning.{plan_fits}
-use Rattle.candidates.specs.declared.SlotState.{SlotState}
-use Rattle.candidates.specs.declared.SlotState.TheVariants.{Free, Far}
 use Rattle.candidates.specs.declared.Window.{Window}
-use Rattle.candidates.specs.Slot.{View, holder_at}
+use Rattle.candidates.specs.Slot.{SlotState, Free, Far, View, holder_at}
 use Rattle.candidates.specs.Window.{free, available}
 use Rattle.candidates.specs.Choice.{worth_in, candidates_in}
 use Rattle.candidates.specs.Promises.{state_in, Candidate, Picks}

@@ -1,16 +1,18 @@
 -- Choosing: what is asked, the window meant, and what comes of the draw.
 -- Assumes nothing.
-use Rattle.std.specs.Prelude.{ℕ, ◌+◌, ◌%◌, Bool, List, ltb}
+use Rattle.std.specs.Prelude.{ℕ, ◌+◌, ◌%◌, Bool, List, ltb, Err}
+use Rattle.std.specs.declared.result.Result.{Result}
 use Rattle.laws.specs.Tests.{pick, both, between}
 use Rattle.laws.specs.Ranges.{some}
 use Rattle.limits.specs.Limits.{frame_slots, least_time_out, most_time_out}
+use Rattle.numbers.specs.declared.Refusal.{Refusal}
+use Rattle.numbers.specs.declared.Refusal.TheVariants.{WindowTaken}
 use Rattle.ship.specs.declared.Station.{Station}
 use Rattle.plan.specs.declared.Plan.{Plan}
 use Rattle.plan.specs.Plan.{first, onward, slots as window_slots}
 use Rattle.book.specs.declared.Watch.{Watch}
 use Rattle.candidates.specs.declared.Window.{Window}
 use Rattle.candidates.specs.declared.Picked.{Picked}
-use Rattle.candidates.specs.declared.Picked.TheVariants.{Taken}
 use Rattle.candidates.specs.Slot.{View, is_own, holder_at}
 use Rattle.candidates.specs.Choice.{choice}
 use Rattle.choosing.specs.declared.Wanted.{Wanted}
@@ -37,5 +39,5 @@ abbrev pub view_of : List Station → List ℕ → Watch → View
 view_of reg slots w = record { ship = w.ship; reg = reg; slots = slots }
 
 -- what comes of the draw: nothing is drawn where the window has an own mark
-unfoldable pub picked_in : List Station → List ℕ → Watch → Wanted → Picked
-picked_in reg slots w a = pick (any_own slots (window_of w a)) Taken (choice (view_of reg slots w) (window_of w a) a.draw)
+unfoldable pub picked_in : List Station → List ℕ → Watch → Wanted → Result Picked Refusal
+picked_in reg slots w a = pick (any_own slots (window_of w a)) (Err WindowTaken) (choice (view_of reg slots w) (window_of w a) a.draw)

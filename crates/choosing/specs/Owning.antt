@@ -1,62 +1,50 @@
 -- How the slot that was picked becomes ours: what comes of the draw, and the run over its frames.
 -- Assumes nothing.
-use Rattle.std.specs.Prelude.{ℕ, ◌+◌, ◌*◌, ◌%◌, ◌<◌, ◌≡◌, not, List, ltb, length, get_or}
+use Rattle.std.specs.Prelude.{ℕ, ◌+◌, ◌*◌, ◌%◌, ◌≤◌, ◌<◌, ◌≡◌, not, List, ltb, length, get_or, Ok, Err}
+use Rattle.std.specs.declared.result.Result.{Result}
 use Rattle.laws.specs.Tests.{pick}
 use Rattle.laws.specs.Loops.{upto}
 use Rattle.laws.specs.Counting.{one}
 use Rattle.limits.specs.Limits.{frame_slots, slot_times, records}
 use Rattle.numbers.specs.declared.Refusal.{Refusal}
-use Rattle.numbers.specs.declared.Refusal.TheVariants.{WindowTaken, NoCandidate as NoneThere, DrawBack, BeyondBook}
+use Rattle.numbers.specs.declared.Refusal.TheVariants.{BeyondBook}
 use Rattle.ship.specs.declared.Station.{Station}
+use Rattle.book.specs.declared.Watch.{Watch}
 use Rattle.book.specs.Book.{ours, place, put_at, Puts}
 use Rattle.candidates.specs.declared.Picked.{Picked}
-use Rattle.candidates.specs.declared.Picked.TheVariants.{At, NoCandidate, SentBack, Taken}
 use Rattle.candidates.specs.Slot.{is_none}
 use Rattle.register.specs.declared.Turn.{Turn}
 use Rattle.register.specs.declared.Reply.{Reply}
-use Rattle.register.specs.declared.Answer.{Answer}
-use Rattle.register.specs.declared.Answer.TheVariants.{Chosen, Refused as NotChosen}
+use Rattle.register.specs.declared.Slot.{Slot}
+use Rattle.register.specs.declared.Answer.TheVariants.{Chosen}
 use Rattle.register.specs.State.{State, state_of, with_counts, owned}
 use Rattle.walks.specs.Out.{Out, out}
 use Rattle.choosing.specs.declared.Query.{Query}
-use Rattle.choosing.specs.declared.own.Drawn.{Drawn}
-use Rattle.choosing.specs.declared.own.Drawn.TheVariants.{At as DrawnAt, Refused as NotDrawn}
 use Rattle.choosing.specs.declared.own.Owning.{Owning}
 use Rattle.choosing.specs.Choose.{replaced_in}
 
 -- ---- what comes of the draw
 
--- nothing becomes ours
-abbrev pub refused_by : Query → Refusal → Owning
-refused_by q why = record { watch = q.watch; drawn = NotDrawn why; frames = 0 }
-
--- the slot x ahead, one of n candidates, in the frames 0, 1, .. to the time-out
-abbrev pub owned_at : Query → ℕ → ℕ → Owning
-owned_at q x n =
+-- the slot that is picked, in the frames 0, 1, .. to the time-out
+abbrev pub owned_at : Query → Picked → Owning
+owned_at q p =
     record {
       watch = q.watch;
-      drawn = DrawnAt (record { distance = x; slot = place q.watch.present x % frame_slots; candidates = n; replaced = 0 });
+      slot = record { distance = p.distance; slot = place q.watch.present p.distance % frame_slots; candidates = p.candidates; replaced = 0 };
       frames = q.window.timeout + 1;
     }
 
-unfoldable pub owning_at : Query → ℕ → ℕ → Owning
-owning_at q x n = pick (ltb (x + frame_slots * q.window.timeout) slot_times) (owned_at q x n) (refused_by q BeyondBook)
+unfoldable pub owning_at : Query → Picked → Result Owning Refusal
+owning_at q p = pick (ltb (p.distance + frame_slots * q.window.timeout) slot_times) (Ok (owned_at q p)) (Err BeyondBook)
 
-abbrev pub owning_of : Query → Picked → Owning
-owning_of q (At x n) = owning_at q x n
-owning_of q NoCandidate = refused_by q NoneThere
-owning_of q SentBack = refused_by q DrawBack
-owning_of q Taken = refused_by q WindowTaken
+abbrev pub owning_of : Query → Result Picked Refusal → Result Owning Refusal
+owning_of q (Ok p) = owning_at q p
+owning_of q (Err r) = Err r
 
 -- ---- the run
 
-abbrev pub started_by : Drawn → Owning → Turn
-started_by (DrawnAt c) o =
-    record { handing = record { counts = o.watch.channel.counts; old = 0; new = 0 }; at = c.distance; left = o.frames; marks = 0 }
-started_by (NotDrawn r) o = record { handing = record { counts = o.watch.channel.counts; old = 0; new = 0 }; at = 0; left = 0; marks = 0 }
-
 abbrev pub started : Owning → Turn
-started o = started_by o.drawn o
+started o = record { handing = record { counts = o.watch.channel.counts; old = 0; new = 0 }; at = o.slot.distance; left = o.frames; marks = 0 }
 
 -- what a step needs
 pub record Steps (book : List ℕ) (t : Turn) : Type 0 where
@@ -73,39 +61,42 @@ pub record OwnsOne (book : List ℕ) (t : Turn) (o : Owning) (r : Turn) (book' :
   pub less : r.left + 1 ≡ t.left
   pub counted : r.marks ≡ t.marks + one (not (is_none (get_or book (place o.watch.present t.at) 0)))
 
--- the answer with so many marks replaced
-abbrev pub answer_by : Drawn → ℕ → Answer
-answer_by (DrawnAt c) n = Chosen (record { distance = c.distance; slot = c.slot; candidates = c.candidates; replaced = n })
-answer_by (NotDrawn r) n = NotChosen r
-
-abbrev pub reply_of : Owning → Turn → Reply
-reply_of o t = record { watch = with_counts o.watch t.handing.counts; answer = answer_by o.drawn t.marks }
-
--- the frames lie in the book
-abbrev pub InBook : Drawn → ℕ → Type 0
-InBook (DrawnAt c) n = c.distance + frame_slots * n < slot_times + frame_slots
-InBook (NotDrawn r) n = Unit {0}
-
--- what the run needs
-pub record Owns (reg : List Station) (book : List ℕ) (o : Owning) : Type 0 where
-  pub register : length reg ≡ records
-  pub size : length book ≡ slot_times
-  pub inside : InBook o.drawn o.frames
-
 -- the slot x ahead and its later frames, n frames in all, become ours
 abbrev pub owned_in : State → ℕ → ℕ → State
 owned_in s x = upto (λ t i. owned t (place s.watch.present (x + frame_slots * i))) s
 
-abbrev pub owned_state : Drawn → ℕ → State → State
-owned_state (DrawnAt c) n s = owned_in s c.distance n
-owned_state (NotDrawn r) n s = s
+-- so many frames are done, and all lie in the book: the state, the marks replaced, and that the times from the next frame on are held as at the start
+pub record Upto (o : Owning) (ys : List Station) (bs : List ℕ) (t : Turn) (zs : List Station) (cs : List ℕ) : Type 0 where
+  pub inside : o.slot.distance + frame_slots * o.frames < slot_times + frame_slots
+  pub done : ℕ
+  pub left : t.left + done ≡ o.frames
+  pub at : t.at ≡ o.slot.distance + frame_slots * done
+  pub state : state_of zs cs (with_counts o.watch t.handing.counts) ≡ owned_in (state_of ys bs o.watch) o.slot.distance done
+  pub marks : t.marks ≡ replaced_in bs o.watch.present o.slot.distance done
+  pub later : (d : ℕ) → o.slot.distance + frame_slots * done ≤ d → d < slot_times
+      → get_or cs (place o.watch.present d) 0 ≡ get_or bs (place o.watch.present d) 0
 
-abbrev pub replaced_by : Drawn → ℕ → State → ℕ
-replaced_by (DrawnAt c) n s = replaced_in s.book s.watch.present c.distance n
-replaced_by (NotDrawn r) n s = 0
+-- the slot with so many marks replaced
+abbrev pub with_replaced : Slot → ℕ → Slot
+with_replaced c n = record { distance = c.distance; slot = c.slot; candidates = c.candidates; replaced = n }
+
+abbrev pub reply_of : Owning → Turn → Reply
+reply_of o t = record { watch = with_counts o.watch t.handing.counts; answer = Ok (Chosen (with_replaced o.slot t.marks)) }
+
+-- what the run needs: a register and a book of their lengths, and the frames lie in the book
+pub record Owns (reg : List Station) (book : List ℕ) (o : Owning) : Type 0 where
+  pub register : length reg ≡ records
+  pub size : length book ≡ slot_times
+  pub inside : o.slot.distance + frame_slots * o.frames < slot_times + frame_slots
 
 abbrev pub owned_out : Owning → List Station → List ℕ → Out Reply
 owned_out o reg book =
     let s = state_of reg book o.watch in
-    let t = owned_state o.drawn o.frames s in
-    out (record { watch = t.watch; answer = answer_by o.drawn (replaced_by o.drawn o.frames s) }) t.reg t.book
+    let t = owned_in s o.slot.distance o.frames in
+    out (record { watch = t.watch; answer = Ok (Chosen (with_replaced o.slot (replaced_in s.book s.watch.present o.slot.distance o.frames))) }) t.reg t.book
+
+-- ---- what is answered and left, by what came of the draw
+
+abbrev pub chosen_out : Watch → Result Owning Refusal → List Station → List ℕ → Out Reply
+chosen_out w (Ok o) reg book = owned_out o reg book
+chosen_out w (Err r) reg book = out (record { watch = w; answer = Err r }) reg book

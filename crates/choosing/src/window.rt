@@ -34,13 +34,5 @@ pub fn any_own(book: &[u16], v: Window) -> bool
     requires { (length book.now ≡ slot_times) × ((v.first ≤ frame_slots) × (v.width ≤ widest)) }
     ensures { result ≡ any_own book.now v }
 {
-    let mut i: usize = 0;
-    while i < v.width {
-        let at = place(v.present, v.first + i);
-        if book[at] == OWN {
-            return true;
-        }
-        i += 1;
-    }
-    false
+    (0..v.width).any(|i| book[place(v.present, v.first + i)] == OWN)
 }

@@ -2,13 +2,14 @@
 // signed positions; specs/Promises.antt has that the level of every station is below that of a time that nobody holds.
 #![tactic(auto)]
 
-ghost use Rattle.std.specs.Prelude.{◌≡◌, ◌<◌, nat_abs};
-ghost use Rattle.distance.specs.Distance.{apart, round, distance, level_of};
+ghost use Rattle.std.specs.Prelude.{◌≡◌, ◌<◌, ◌^◌};
+ghost use Rattle.distance.specs.Distance.{round, distance, level_of};
 
 use ship::{Ship, Station, known};
 
 // The level of a holder of a slot time, for the choice: the lower, the less its slots may be used. Of a station's it is why they may not, or from FAR on how
-// far it is; our own time is OWN, where our own position is not known it is WE_UNKNOWN, and nobody's is TOP, above the level of every distance.
+// far it is; our own time is OWN, where our own position is not known it is WE_UNKNOWN, and nobody's is TOP, above the level of every distance. Numbers and
+// no enum: the choice orders candidates by one number that holds the level beside the slot, so that one test compares two of them.
 pub const OWN: u64 = 0;
 
 pub const WE_UNKNOWN: u64 = 1;
@@ -23,49 +24,25 @@ pub const FAR: u64 = 5;
 
 pub const TOP: u64 = 36028797018963968;
 
-// The number without its sign.
-fn size(d: i64) -> u64
-    requires { nat_abs d < 9223372036854775808 }
-    ensures { result ≡ nat_abs d }
-{
-    if d < 0 {
-        return (0 - d) as u64;
-    }
-    d as u64
-}
-
-// How far apart two numbers are.
-fn gap(x: i32, y: i32) -> u64
-    ensures { result ≡ apart x y }
-{
-    let a = x as i64;
-    let b = y as i64;
-    size(a - b)
-}
-
 // The short way round the earth.
-fn short_way(d: u64) -> u64
+#[tactic(auto, unfolding(crate::specs::Distance::round))]
+fn short_way(d: u32) -> u32
     ensures { result ≡ round d }
 {
-    if d <= 108000000 {
-        return d;
-    }
-    if d <= 216000000 {
-        return 216000000 - d;
-    }
-    0
+    d.min(216000000u32.saturating_sub(d))
 }
 
 // The distance of two positions.
+#[tactic(auto, unfolding(crate::specs::Distance::distance, crate::specs::Distance::apart))]
 pub fn distance(latitude: i32, longitude: i32, north: i32, east: i32) -> u64
-    ensures { result ≡ distance latitude longitude north east }
+    ensures value { result ≡ distance latitude longitude north east }
+    ensures small { result < 2 ^ 33 }
 {
-    let a = gap(latitude, north);
-    let b = short_way(gap(longitude, east));
-    a + b
+    u64::from(latitude.abs_diff(north)) + u64::from(short_way(longitude.abs_diff(east)))
 }
 
 // The level of a station, our own position being known.
+#[tactic(auto, unfolding(crate::specs::Distance::level_of, crate::specs::Distance::gap_to))]
 pub fn level(ship: Ship, s: Station) -> u64
     ensures { result ≡ level_of ship s }
 {

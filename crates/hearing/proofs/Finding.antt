@@ -1,52 +1,62 @@
--- The record of a station as the code finds it: two seeks in the register find the lowest of each kind, and so the one of the definition.
+-- The record of a station as the code finds it: the first of its own, else the first that is idle, and so the one of the definition.
 -- Assumes nothing.
-use mathlib.Core.Path.{◌≡◌, refl, sym, ap, ap₂, ◌∙◌}
-use mathlib.Core.Bool.{Bool, true, false}
+use mathlib.Core.Path.{◌≡◌, refl, sym, ap, ◌∙◌}
+use mathlib.Core.Bool.{Bool, true, false, not, cond}
 use mathlib.Core.List.{List, [], ◌∷◌}
-use Prim.Native.Nat.{ℕ, suc}
+use Prim.Native.Nat.{ℕ, suc, ◌+◌, ◌≤◌}
+use native.Mathlib.Omega.{arith}
 use lib.Dec.{eqb, ltb}
 use lib.ListN.{length, length-map}
+use borrow.Author.Tests.{ltb-false}
+use Rattle.std.specs.List.{position, position_or_len}
+use Rattle.std.specs.Option.{option_or, unwrap_or}
+use Rattle.std.specs.Prelude.{Some, None}
 use Rattle.laws.specs.Tests.{pick}
 use Rattle.limits.specs.Limits.{records}
 use Rattle.ship.specs.declared.Station.{Station}
 use Rattle.register.specs.State.{sources_in, tallies_in}
-use Rattle.walks.specs.Swept.{hit_or, sought}
 use Rattle.hearing.specs.Station.{index_of, record_of}
 use Rattle.hearing.specs.Hear.{record_for}
 
--- ---- a seek is a search
+one-step : (b : Bool) {m n : ℕ} → m ≡ n → cond (not b) (1 + m) 0 ≡ pick b 0 (suc n)
+one-step true e = refl
+one-step false e = omega arith
 
-one-step : (b : Bool) (m n : ℕ) → m ≡ n → hit_or b m ≡ pick b 0 (suc n)
-one-step true m n e = refl
-one-step false m n e = ap suc e
-
-finds-its : (x : ℕ) (reg : List Station) → sought (λ (s : Station). eqb s.source x) reg ≡ index_of x (sources_in reg)
-unfolding sought
+finds-its : (x : ℕ) (reg : List Station) → position_or_len (λ (s : Station). eqb s.source x) reg ≡ index_of x (sources_in reg)
 finds-its x [] = refl
-finds-its x (r ∷ reg) = one-step (eqb r.source x) _ _ (finds-its x reg)
+finds-its x (r ∷ reg) = one-step (eqb r.source x) (finds-its x reg)
 
-finds-idle : (reg : List Station) → sought (λ (s : Station). eqb s.tally 0) reg ≡ index_of 0 (tallies_in reg)
-unfolding sought
+finds-idle : (reg : List Station) → position_or_len (λ (s : Station). eqb s.tally 0) reg ≡ index_of 0 (tallies_in reg)
 finds-idle [] = refl
-finds-idle (r ∷ reg) = one-step (eqb r.tally 0) _ _ (finds-idle reg)
+finds-idle (r ∷ reg) = one-step (eqb r.tally 0) (finds-idle reg)
 
--- ---- the record of the definition
+-- no place is past the end
+index-most : (x : ℕ) (l : List ℕ) → index_of x l ≤ length l
+index-most x [] = omega arith
+index-most x (y ∷ l) = go (eqb y x) (index-most x l)
+  where
+    go : (b : Bool) → index_of x l ≤ length l → pick b 0 (suc (index_of x l)) ≤ length (y ∷ l)
+    go true h = omega arith
+    go false h = omega arith
 
-module _ (reg : List Station) (x : ℕ) (many : length reg ≡ records) where
-  abbrev with : ℕ
-  with = index_of x (sources_in reg)
+-- the first of two that there is, of n places
+either-place : (i j n : ℕ) → j ≤ n → unwrap_or (option_or (cond (ltb i n) (Some i) None) (cond (ltb j n) (Some j) None)) n ≡ pick (ltb i n) i j
+either-place i j n h = go (ltb i n) (ltb j n) refl
+  where
+    go : (t u : Bool) → ltb j n ≡ u → unwrap_or (option_or (cond t (Some i) None) (cond u (Some j) None)) n ≡ pick t i j
+    go true u e = refl
+    go false true e = refl
+    go false false e = let over : n ≤ j = ltb-false j n e in omega arith
 
-  abbrev idle : ℕ
-  idle = index_of 0 (tallies_in reg)
-
-  -- the definition's test is the code's
-  same_test : (t : Bool) → ltb (sought (λ (s : Station). eqb s.source x) reg) records ≡ t → ltb with (length (sources_in reg)) ≡ t
-  same_test t e = ap₂ ltb (sym (finds-its x reg)) (length-map reg (λ (r : Station). r.source) ∙ many) ∙ e
-
-  pub record-its : ltb (sought (λ (s : Station). eqb s.source x) reg) records ≡ true → sought (λ (s : Station). eqb s.source x) reg ≡ record_for reg x
-  unfolding record_of
-  record-its e = finds-its x reg ∙ sym (ap (λ (t : Bool). pick t with idle) (same_test true e))
-
-  pub record-idle : ltb (sought (λ (s : Station). eqb s.source x) reg) records ≡ false → sought (λ (s : Station). eqb s.tally 0) reg ≡ record_for reg x
-  unfolding record_of
-  record-idle e = finds-idle reg ∙ sym (ap (λ (t : Bool). pick t with idle) (same_test false e))
+pub record_found : (reg : List Station) (x : ℕ) → length reg ≡ records
+    → unwrap_or (option_or (position (λ (s : Station). eqb s.source x) reg) (position (λ (s : Station). eqb s.tally 0) reg)) records ≡ record_for reg x
+unfolding record_of
+record_found reg x many =
+    let its = finds-its x reg in
+    let idle = finds-idle reg in
+    let all : length (sources_in reg) ≡ length reg = length-map reg (λ (r : Station). r.source) in
+    let few : length (tallies_in reg) ≡ length reg = length-map reg (λ (r : Station). r.tally) in
+    ap (unwrap_or (option_or (position (λ (s : Station). eqb s.source x) reg) (position (λ (s : Station). eqb s.tally 0) reg))) (sym many)
+    ∙ either-place (position_or_len (λ (s : Station). eqb s.source x) reg) (position_or_len (λ (s : Station). eqb s.tally 0) reg) (length reg)
+    (omega (arith, idle, few, index-most 0 (tallies_in reg)))
+    ∙ (λ k. pick (ltb (its k) (sym all k)) (its k) (idle k))

@@ -1,18 +1,18 @@
 -- A report that is heard, in the words of specs/Hear.antt: what the functions give, one after the other, is what the definition says.
---     hears-is         find, noted, store, free_times and mark_times together
+--     hears-is         find, noted, store, free_times and mark_times together: a report that is booked, and one that is refused
+--     heard-all        so also by what each of them promises
 -- Assumes nothing.
-use mathlib.Core.Path.{◌≡◌, sym, ap, ◌∙◌}
-use mathlib.Core.Bool.{true, false}
-use mathlib.Core.List.{List, []}
-use Prim.Native.Nat.{ℕ, suc, ◌≤◌, ◌<◌}
+use mathlib.Core.Path.{◌≡◌, refl, sym, ap, subst, subst₃, ◌∙◌}
+use mathlib.Core.Bool.{Bool, true, false}
+use mathlib.Core.List.{List, [], ◌∷◌}
+use Prim.Native.Nat.{ℕ, suc, ◌<◌}
 use native.Mathlib.Numerals.{add-one}
-use borrow.Author.Tests.{lt-ltb, le-ltb, ltb-true, ltb-false}
+use borrow.Author.Tests.{lt-ltb, ltb-true}
 use lib.Dec.{ltb}
-use lib.ListN.{length, get_or, set}
-use lib.Seq.{set-get_or}
+use lib.ListN.{length, get_or, set, length-set}
+use Rattle.std.specs.Prelude.{Result, Ok, Err}
 use Rattle.laws.specs.Tests.{ladder}
-use Rattle.laws.proofs.Tests.{by-test}
-use Rattle.limits.specs.Limits.{records}
+use Rattle.limits.specs.Limits.{slot_times, records}
 use Rattle.numbers.specs.declared.Refusal.{Refusal}
 use Rattle.numbers.specs.declared.Refusal.TheVariants.{NoRecord, BeyondBook}
 use Rattle.ship.specs.declared.Station.{Station}
@@ -23,27 +23,33 @@ use Rattle.announcing.specs.declared.rows.Row.{Row}
 use Rattle.announcing.specs.Rows.{booked, held_of, in_book}
 use Rattle.announcing.specs.Announce.{announces, filled}
 use Rattle.announcing.proofs.Filling.{few-announced, booked-filled, held-filled}
-use Rattle.announcing.proofs.Sizes.{booked-none}
 use Rattle.register.specs.declared.Reply.{Reply}
 use Rattle.register.specs.State.{State, state_of, book_in, settle}
-use Rattle.register.specs.Answers.{Answered, no, out_of}
-use Rattle.register.proofs.Again.{settle-none}
-use Rattle.walks.specs.Out.{Out, out}
+use Rattle.register.specs.Answers.{no, out_of}
+use Rattle.walks.specs.Out.{Out, out, Ends}
 use Rattle.hearing.specs.declared.Telling.{Telling}
 use Rattle.hearing.specs.declared.Hearing.{Hearing}
-use Rattle.hearing.specs.declared.Fit.{Fit}
-use Rattle.hearing.specs.declared.Fit.TheVariants.{Yes, Refused as NotFit}
 use Rattle.hearing.specs.declared.Booking.{Booking}
-use Rattle.hearing.specs.Hear.{record_for, entered, stored, heard, marks_of, book_tests, hears}
-use Rattle.hearing.specs.Booking.{fit_of, at_of, rows_of, fits, Noted, place_of, holder_of, stored_by, stored_in, reply_of, freed_out}
-use Rattle.hearing.proofs.Entering.{place_at, stored-many}
-use Rattle.hearing.proofs.Noting.{booking, fit_none, fit-beyond, fit-yes}
-use Rattle.hearing.proofs.Joined.{goes_on, leaving, both_runs}
+use Rattle.hearing.specs.Hear.{record_for, entered, stored, heard, marks_of, hears, heard_answer}
+use Rattle.hearing.specs.Booking.{noted_of, booking_of, place_of, holder_of, stored_in, reply_of, Booked, freed_out, marked_out}
+use Rattle.hearing.proofs.Noting.{rows_inside}
+use Rattle.hearing.proofs.Joined.{freed-booked, goes_on, leaving, both_runs}
 
--- what is noted, by its parts
-noted-is : (q : Hearing) (fit : Fit) (at : ℕ) (rows : List Row) (b : Booking) → Noted q fit at rows b → b ≡ booking q fit at rows b.frees b.marks
-noted-is q fit at rows b n =
-    λ i. record { watch = n.watch i; telling = n.telling i; fit = n.is-fit i; at = n.place i; rows = n.announced i; frees = b.frees; marks = b.marks }
+-- where something is noted
+record Fit (q : Hearing) (k : ℕ) (b : Booking) : Type 0 where
+  pub there : k < records
+  pub inside : in_book (announces q.telling.state) ≡ true
+  pub is : b ≡ booking_of q k
+
+fits : (q : Hearing) (k : ℕ) (b : Booking) → Ok b ≡ noted_of q k → Fit q k b
+unfolding noted_of
+fits q k b e = go (ltb k records) refl (in_book (announces q.telling.state)) refl e
+  where
+    go : (t : Bool) → ltb k records ≡ t → (u : Bool) → in_book (announces q.telling.state) ≡ u
+        → Ok b ≡ ladder ((t, Err NoRecord) ∷ (u, Err BeyondBook) ∷ []) (Ok (booking_of q k)) → Fit q k b
+    go true p true r e = record { there = ltb-true k records p; inside = r; is = cc }
+    go true p false r e = cc
+    go false p u r e = cc
 
 -- ---- the whole
 
@@ -63,117 +69,98 @@ module _ (reg : List Station) (book : List ℕ) (w : Watch) (x : Telling) (many 
   after b t = settle (booked b.watch.present (holder_of b) b.rows (book_in t)) t
 
   done-is : (b : Booking) → done b ≡ leaving b (after b (state_of (stored_in reg b) book b.watch))
-  done-is b = both_runs b (stored_in reg b) book (stored-many reg b ∙ many)
+  done-is b = both_runs b (stored_in reg b) book (length-set reg _ _ ∙ many)
 
-  module _ (frees marks : ℕ) where
-    -- ---- a report that is refused
+  -- ---- a report that is refused
 
-    module _ (r : Refusal) where
-      abbrev unfit : Booking
-      unfit = booking q (NotFit r) 0 (filled []) frees marks
+  refused : (r : Refusal) → Err r ≡ noted_of q (record_for reg x.source) → heard_answer s x ≡ no s r
+  unfolding noted_of
+  refused r e = go (ltb (record_for reg x.source) records) (in_book (announces x.state)) e
+    where
+      go : (t u : Bool) → Err r ≡ ladder ((t, Err NoRecord) ∷ (u, Err BeyondBook) ∷ []) (Ok (booking_of q (record_for reg x.source)))
+          → ladder ((t, no s NoRecord) ∷ (u, no s BeyondBook) ∷ []) (hears s x) ≡ no s r
+      go true true e = cc
+      go true false e = let why : BeyondBook ≡ r = cc in ap (no s) why
+      go false u e = let why : NoRecord ≡ r = cc in ap (no s) why
 
-      -- nothing is stored
-      same-register : stored_in reg unfit ≡ reg
-      unfolding stored_by
-      same-register = set-get_or reg (place_of unfit) blank
+  -- ---- a report that is booked
 
-      -- and nothing is booked
-      same-state : after unfit s ≡ s
-      same-state = ap (λ (c : Book). settle c s) (booked-none w.present (holder_of unfit) (book_in s)) ∙ settle-none s many
+  module _ (l : record_for reg x.source < records) where
+    abbrev told : List Row
+    told = announces x.state
 
-      pub refused-out : done unfit ≡ out_of (no s r)
-      refused-out =
-          done-is unfit ∙ ap (λ (l : List Station). leaving unfit (after unfit (state_of l book w))) same-register
-          ∙ ap (leaving unfit) same-state
+    abbrev fit : Booking
+    fit = booking_of q (record_for reg x.source)
 
-    -- ---- a report that is booked
+    place_is : place_of fit ≡ record_for reg x.source
+    unfolding place_of
+    place_is = simp (lt-ltb (record_for reg x.source) records l)
 
-    module _ (l : record_for reg x.source < records) where
-      abbrev told : List Row
-      told = announces x.state
+    holder-is : holder_of fit ≡ suc (record_for reg x.source)
+    unfolding holder_of
+    holder-is = add-one (place_of fit) ∙ ap suc place_is
 
-      abbrev fit : Booking
-      fit = booking q Yes (record_for reg x.source) (filled told) frees marks
+    -- the station is stored in its record
+    state-is : state_of (stored_in reg fit) book w ≡ stored s x
+    unfolding stored
+    state-is = ap (λ (i : ℕ). state_of (set reg i (entered x (get_or reg i blank))) book w) place_is
 
-      place_is : place_of fit ≡ record_for reg x.source
-      place_is = sym (place_at fit l)
+    -- what it announces is booked
+    book-is : (c : Book) → booked w.present (holder_of fit) (filled told) c ≡ booked w.present (suc (record_for reg x.source)) told c
+    book-is c =
+        booked-filled told (few-announced x.state) w.present (holder_of fit) c ∙ ap (λ (h : ℕ). booked w.present h told c) holder-is
 
-      holder-is : holder_of fit ≡ suc (record_for reg x.source)
-      unfolding holder_of
-      holder-is = add-one (place_of fit) ∙ ap suc place_is
+    heard-is : after fit (state_of (stored_in reg fit) book w) ≡ heard s x
+    unfolding heard stored
+    heard-is = ap (after fit) state-is ∙ ap (λ (c : Book). settle c (stored s x)) (book-is (book_in (stored s x)))
 
-      -- the station is stored in its record
-      state-is : state_of (stored_in reg fit) book w ≡ stored s x
-      unfolding stored stored_by
-      state-is = ap (λ (i : ℕ). state_of (set reg i (entered x (get_or reg i blank))) book w) place_is
+    -- and the marks are counted
+    marks-is : held_of w.present (holder_of fit) (heard s x).book (filled told) ≡ marks_of s x
+    unfolding marks_of
+    marks-is =
+        held-filled told (few-announced x.state) w.present (holder_of fit) (heard s x).book
+        ∙ ap (λ (h : ℕ). held_of w.present h (heard s x).book told) holder-is
 
-      -- what it announces is booked
-      book-is : (c : Book) → booked w.present (holder_of fit) (filled told) c ≡ booked w.present (suc (record_for reg x.source)) told c
-      book-is c =
-          booked-filled told (few-announced x.state) w.present (holder_of fit) c ∙ ap (λ (h : ℕ). booked w.present h told c) holder-is
+    heard-out : done fit ≡ out_of (hears s x)
+    heard-out =
+        done-is fit ∙ ap (leaving fit) heard-is
+        ∙ ap (λ (n : ℕ). out (reply_of fit (heard s x).watch n) (heard s x).reg (heard s x).book) marks-is
 
-      heard-is : after fit (state_of (stored_in reg fit) book w) ≡ heard s x
-      unfolding heard stored
-      heard-is = ap (after fit) state-is ∙ ap (λ (c : Book). settle c (stored s x)) (book-is (book_in (stored s x)))
+  -- ---- the two together
 
-      -- and the marks are counted
-      marks-is : held_of w.present (holder_of fit) (heard s x).book (filled told) ≡ marks_of s x
-      unfolding marks_of
-      marks-is =
-          held-filled told (few-announced x.state) w.present (holder_of fit) (heard s x).book
-          ∙ ap (λ (h : ℕ). held_of w.present h (heard s x).book told) holder-is
+  -- what the code comes to by what is noted: the runs, or the refusal over the register and the book as they were
+  abbrev pub comes : Result Booking Refusal → Out Reply
+  comes (Ok b) = done b
+  comes (Err e) = out (record { watch = w; answer = Err e }) reg book
 
-      pub heard-out : done fit ≡ out_of (hears s x)
-      heard-out =
-          done-is fit ∙ ap (leaving fit) heard-is
-          ∙ ap (λ (n : ℕ). out (reply_of fit (heard s x).watch n) (heard s x).reg (heard s x).book) marks-is
+  answer-is : (b : Booking) → Fit q (record_for reg x.source) b → heard_answer s x ≡ hears s x
+  answer-is b f = simp (lt-ltb (record_for reg x.source) records f.there, f.inside)
 
-  -- ---- by the tests of the definition
+  pub hears-is : (r : Result Booking Refusal) → r ≡ noted_of q (record_for reg x.source) → comes r ≡ out_of (heard_answer s x)
+  hears-is (Ok b) e =
+      let f = fits q (record_for reg x.source) b e in
+      ap done f.is ∙ heard-out f.there ∙ ap out_of (sym (answer-is b f))
+  hears-is (Err r) e = ap out_of (sym (refused r e))
 
-  abbrev answer : Answered
-  answer = ladder (book_tests s x) (hears s x)
+  -- ---- each step
 
-  tests-none : records ≤ record_for reg x.source → answer ≡ no s NoRecord
-  tests-none l = simp (le-ltb (record_for reg x.source) records l)
+  module _ (b : Booking) (noted : Ok b ≡ noted_of q (record_for reg x.source)) where
+    pub stored-fits : (ys : List Station) → ys ≡ stored_in reg b → length book ≡ slot_times → Booked ys book b
+    stored-fits ys e size =
+        let f = fits q (record_for reg x.source) b noted in
+        record {
+          register = ap length e ∙ length-set reg _ _ ∙ many;
+          size = size;
+          inside = ap (λ (c : Booking). in_book c.rows) f.is ∙ rows_inside x.state ∙ f.inside;
+        }
 
-  tests-beyond : record_for reg x.source < records → in_book (announces x.state) ≡ false → answer ≡ no s BeyondBook
-  tests-beyond l e = simp (lt-ltb (record_for reg x.source) records l, e)
+    pub heard-all : (ys : List Station) → ys ≡ stored_in reg b → (y : Booking) (zs : List Station) (cs : List ℕ) → Ends (freed_out b ys book) y zs cs
+        → (r : Reply) (us : List Station) (ds : List ℕ) → Ends (marked_out y zs cs) r us ds → Ends (out_of (heard_answer s x)) r us ds
+    heard-all ys e y zs cs freed r us ds marked =
+        let steps : marked_out y zs cs ≡ done b = (λ i. marked_out (freed.answers i) (freed.leaves i) (freed.writes i)) ∙ ap (λ (l : List Station). goes_on (freed_out b l book)) e in
+        subst (λ (o : Out Reply). Ends o r us ds) (steps ∙ hears-is (Ok b) noted) marked
 
-  tests-hold : record_for reg x.source < records → in_book (announces x.state) ≡ true → answer ≡ hears s x
-  tests-hold l e = simp (lt-ltb (record_for reg x.source) records l, e)
-
-  -- the record that was found
-  abbrev k : ℕ
-  k = record_for reg x.source
-
-  module _ (b : Booking) (noted : Noted q (fit_of q k) (at_of q k) (rows_of q k) b) where
-    -- what is noted, where y is whether it is fit
-    noted-by : (y : Fit) → fit_of q k ≡ y
-        → b ≡ booking q y (fits y k 0) (fits y (filled (announces x.state)) (filled [])) b.frees b.marks
-    noted-by y e =
-        noted-is q _ _ _ b noted
-        ∙ ap (λ (y : Fit). booking q y (fits y k 0) (fits y (filled (announces x.state)) (filled [])) b.frees b.marks) e
-
-    no-record-is : ltb k records ≡ false → done b ≡ out_of answer
-    no-record-is e =
-        let l : records ≤ k = ltb-false k records e in
-        ap done (noted-by (NotFit NoRecord) (fit_none q k l)) ∙ refused-out b.frees b.marks NoRecord
-        ∙ ap out_of (sym (tests-none l))
-
-    beyond-is : k < records → in_book (announces x.state) ≡ false → done b ≡ out_of answer
-    beyond-is l e =
-        ap done (noted-by (NotFit BeyondBook) (fit-beyond q k l e)) ∙ refused-out b.frees b.marks BeyondBook
-        ∙ ap out_of (sym (tests-beyond l e))
-
-    heard-is-all : k < records → in_book (announces x.state) ≡ true → done b ≡ out_of answer
-    heard-is-all l e =
-        ap done (noted-by Yes (fit-yes q k l e)) ∙ heard-out b.frees b.marks l
-        ∙ ap out_of (sym (tests-hold l e))
-
-    with-record : ltb k records ≡ true → done b ≡ out_of answer
-    with-record e =
-        let l : k < records = ltb-true k records e in
-        by-test (in_book (announces x.state)) (heard-is-all l) (beyond-is l)
-
-    pub hears-is : done b ≡ out_of answer
-    hears-is = by-test (ltb k records) with-record no-record-is
+-- the runs may go on
+pub freed-fits : (b : Booking) (ys : List Station) (bs : List ℕ) (y : Booking) (zs : List Station) (cs : List ℕ) → Booked ys bs b
+    → Ends (freed_out b ys bs) y zs cs → Booked zs cs y
+freed-fits b ys bs y zs cs n e = subst₃ Booked (sym e.leaves) (sym e.writes) (sym e.answers) (freed-booked b ys bs n)

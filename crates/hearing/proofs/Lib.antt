@@ -1,8 +1,7 @@
 pub mod Stations
 pub mod Promised
-pub mod Finding
-pub mod Entering
 pub mod Noting
+pub mod Finding
 pub mod Turning
 pub mod Runs
 pub mod Joined

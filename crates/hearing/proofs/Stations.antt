@@ -1,29 +1,14 @@
--- The station of a message: its source, and its record: where a number stands first in a list, and that it is the lowest place.
+-- The record of a message's station: where a number stands first in a list, and that it is the lowest place.
 -- Assumes nothing.
 use mathlib.Core.Path.{◌≡◌, sym, ◌∙◌}
-use mathlib.Core.Bool.{Bool, false}
 use mathlib.Core.List.{List, [], ◌∷◌}
 use Prim.Native.Nat.{ℕ, zero, suc, ◌≤◌, ◌<◌}
 use native.Mathlib.Decide.{ℕ_discrete}
 use native.Mathlib.Omega.{arith}
 use borrow.Author.Tests.{eq-eqb, ne_eqb, lt-ltb, le-ltb}
 use lib.ListN.{length, get_or}
-use Rattle.laws.proofs.Tests.{both-no, both_yes}
-use Rattle.ship.specs.Ship.{fair_source}
-use Rattle.hearing.specs.Station.{fair_other, index_of, record_of}
+use Rattle.hearing.specs.Station.{index_of, record_of}
 use Rattle.hearing.specs.Promises.{First}
-
--- ---- the source
-
--- our own is none of another station
-pub fair-own : (s own : ℕ) → s ≡ own → false ≡ fair_other s own
-unfolding fair_other
-fair-own s own e = sym (simp (eq-eqb s own e, both-no))
-
--- any other is one where it can be a source at all
-pub fair-other : (s own : ℕ) (r : Bool) → (s ≡ own → ⊥) → r ≡ fair_source s → r ≡ fair_other s own
-unfolding fair_other
-fair-other s own r n e = e ∙ sym (simp (ne_eqb s own n) (both_yes (fair_source s)))
 
 -- ---- where a number stands first
 

@@ -99,6 +99,10 @@ hear_tests s bytes =
 abbrev pub hears : State → Telling → Answered
 hears s x = answered (Heard (record { source = x.source; marks = marks_of s x })) (heard s x)
 
+-- the answer, once the message may be heard: what is asked of the register and the book, and what is answered
+abbrev pub heard_answer : State → Telling → Answered
+heard_answer s x = ladder (book_tests s x) (hears s x)
+
 unfoldable pub hear : State → List ℕ → Answered
 unfolding hear_tests
 hear s bytes = ladder (hear_tests s bytes) (hears s (telling_in bytes))

@@ -1,30 +1,32 @@
-// Hearing: what a message from another station does to the register and to the book. Promises: `find` looks its record up in the lent register, `store` enters it
-// there, `free_times` and `mark_times` book what it announces, each as specs/Hear.antt says, for every state. specs/Promises.antt has that
-// the record is the lowest; when each number is given stands with the calls.
+// Hearing: what a message from another station does to the register and to the book. Promise: `hear` answers and leaves what specs/Hear.antt says, on every
+// register and book that have their lengths, of a refusal too. Its parts: `find` looks the record up, `noted` says what is to be booked or why not, `store` enters
+// the station, `free_times` and `mark_times` book what it announces; `hears-is` in proofs/Hears.antt has that they come to it. specs/Promises.antt has that the
+// record is the lowest; which number is given first stands with the calls.
 #![tactic(auto)]
 
-ghost use Rattle.std.specs.Prelude.{◌≡◌, [], ◌<◌, eqb, ltb, length, get_or};
+ghost use Rattle.std.specs.Prelude.{◌≡◌, ◌-◌, true, ◌<◌, ◌≤◌, eqb, ltb, length, unwrap_or, IfSome};
+ghost use Rattle.std.specs.List.{position};
 ghost use Rattle.laws.specs.Tests.{pick};
-ghost use Rattle.laws.specs.Counting.{one};
 ghost use Rattle.limits.specs.Limits.{slot_times, records};
-ghost use Rattle.announcing.specs.Announce.{filled};
-ghost use Rattle.register.specs.State.{with_counts};
+ghost use Rattle.book.specs.Book.{Puts};
+ghost use Rattle.announcing.specs.Rows.{in_book};
+ghost use Rattle.announcing.specs.Next.{Next, kind_time};
+ghost use Rattle.register.specs.State.{state_of, with_counts};
+ghost use Rattle.register.specs.Answers.{out_of};
 ghost use Rattle.walks.specs.Out.{Ends};
-ghost use Rattle.walks.specs.Swept.{sought};
 ghost use Rattle.ship.specs.declared.Station.{Station};
-ghost use Rattle.hearing.specs.declared.Fit.TheVariants.{Refused as NotFit};
 ghost use Rattle.hearing.specs.Station.{fair_other};
-ghost use Rattle.hearing.specs.Hear.{telling_of, record_for};
-ghost use Rattle.hearing.specs.Booking.{fit_of, at_of, rows_of, Noted, place_of, stored_by, stored_in, holder_of, started, Steps, FreesOne, MarksOne, rewatched, reply_of, Booked, freed_out, marked_out};
+ghost use Rattle.hearing.specs.Hear.{mobile, telling_of, record_for, entered, heard_answer};
+ghost use Rattle.hearing.specs.Booking.{noted_of, place_of, stored_in, holder_of, started, hand_at, Steps, BooksOne, Counted, BooksAll, Booked, freed_out, marked_out};
 
-use announcing::rows::{ROWS, Row, announced, no_rows, within};
+use announcing::rows::{Kind, ROWS, Row, announced, within};
 use announcing::times::next_time;
 use book::{Channel, Counts, Handing, NONE, Watch, free, mark, place};
 use limits::{RECORDS, SLOT_TIMES};
-use message::Message;
 use message::state::{SelfOrganised, State, SubMessage};
+use message::{Message, Report};
 use numbers::Refusal;
-use register::{Answer, Marks, Reply, Turn, lose, win};
+use register::{Answer, Marks, Reply, Turn, Turns, run};
 use ship::Station;
 
 // What hearing needs of a message.
@@ -45,23 +47,26 @@ pub struct Hearing {
     pub telling: Telling,
 }
 
-// Whether a report can be booked.
+// A report that is to be booked, with the station's record and the rows that it announces.
 #[derive(Clone, Copy)]
-pub enum Fit {
-    Yes,
-    Refused(Refusal),
+struct Booking {
+    watch: Watch,
+    telling: Telling,
+    at: usize,
+    rows: [Row; ROWS],
 }
 
-// A report with the station's record, the rows that it announces, and the first times that these free and mark. Nothing is done where it is not fit.
-#[derive(Clone, Copy)]
-pub struct Booking {
-    pub watch: Watch,
-    pub telling: Telling,
-    pub fit: Fit,
-    pub at: usize,
-    pub rows: [Row; ROWS],
-    pub frees: usize,
-    pub marks: usize,
+fn mobile(r: Report, state: State) -> Telling
+    ensures { result ≡ mobile r state }
+{
+    Telling {
+        source: r.source,
+        repeat: r.repeat,
+        base: false,
+        latitude: r.latitude,
+        longitude: r.longitude,
+        state,
+    }
 }
 
 // What a message says of its station. A message 4 comes from a base station, any other from a mobile.
@@ -69,30 +74,8 @@ pub fn tell(message: Message) -> Telling
     ensures { result ≡ telling_of message }
 {
     match message {
-        Message::One(r, s) => Telling {
-            source: r.source,
-            repeat: r.repeat,
-            base: false,
-            latitude: r.latitude,
-            longitude: r.longitude,
-            state: State::SelfOrganised(s),
-        },
-        Message::Two(r, s) => Telling {
-            source: r.source,
-            repeat: r.repeat,
-            base: false,
-            latitude: r.latitude,
-            longitude: r.longitude,
-            state: State::SelfOrganised(s),
-        },
-        Message::Three(r, s) => Telling {
-            source: r.source,
-            repeat: r.repeat,
-            base: false,
-            latitude: r.latitude,
-            longitude: r.longitude,
-            state: State::Incremental(s),
-        },
+        Message::One(r, s) | Message::Two(r, s) => mobile(r, State::SelfOrganised(s)),
+        Message::Three(r, s) => mobile(r, State::Incremental(s)),
         Message::Four(b, s) => Telling {
             source: b.source,
             repeat: b.repeat,
@@ -116,129 +99,65 @@ pub fn tell(message: Message) -> Telling
 }
 
 // Whether another station can have this source; `own` is ours.
+#[tactic(auto, unfolding(crate::specs::Station::fair_other))]
 pub fn fair(source: u32, own: u32) -> bool
     ensures { result ≡ fair_other source own }
 {
-    if source == own {
-        return false;
-    }
-    ship::fair(source)
+    source != own && ship::fair(source)
 }
 
 // ---- the record
 
-// Whether the record is the station's.
-fn is_its(s: Station, q: Hearing) -> bool
-    ensures { result ≡ eqb s.source q.telling.source }
+// The first record of a station.
+fn first_its(reg: &[Station], source: u32) -> Option<usize>
+    ensures { result ≡ position (λ (s : Station). eqb s.source source) reg.now }
 {
-    let telling = q.telling;
-    s.source == telling.source
+    reg.iter().position(|s| s.source == source)
 }
 
-// Whether it holds nothing.
-fn is_idle(s: Station, q: Hearing) -> bool
-    ensures { result ≡ eqb s.tally 0 }
+// The first record that holds nothing.
+fn first_idle(reg: &[Station]) -> Option<usize>
+    ensures { result ≡ position (λ (s : Station). eqb s.tally 0) reg.now }
 {
-    s.tally == 0
+    reg.iter().position(|s| s.tally == 0)
 }
 
-// The first of these, and how many records there are where there is none.
-fn first_its(reg: &[Station], q: Hearing) -> usize
-    ensures { result ≡ sought (λ (s : Station). eqb s.source q.telling.source) reg.now }
-{
-    let mut i: usize = 0;
-    while i < reg.len() {
-        if is_its(reg[i], q) {
-            return i;
-        }
-        i += 1;
-    }
-    i
-}
-
-fn first_idle(reg: &[Station], q: Hearing) -> usize
-    ensures { result ≡ sought (λ (s : Station). eqb s.tally 0) reg.now }
-{
-    let mut i: usize = 0;
-    while i < reg.len() {
-        if is_idle(reg[i], q) {
-            return i;
-        }
-        i += 1;
-    }
-    i
-}
-
-fn is_there(k: usize) -> bool
-    ensures { result ≡ ltb k records }
-{
-    k < RECORDS
-}
-
-// The record that the station has now: the lowest with its source, else the lowest with tally 0, which is taken over; RECORDS where there is none.
-pub fn find(reg: &[Station], q: Hearing) -> usize
+// The record that the station has now: the lowest with its source, else the lowest with tally 0, which is taken over.
+pub fn find(reg: &[Station], q: Hearing) -> Option<usize>
     requires { length reg.now ≡ records }
-    ensures { result ≡ record_for reg.now q.telling.source }
+    ensures value { unwrap_or result records ≡ record_for reg.now q.telling.source }
+    ensures inside { IfSome result (λ k. k < records) }
 {
-    let k = first_its(reg, q);
-    if is_there(k) {
-        return k;
-    }
-    first_idle(reg, q)
+    first_its(reg, q.telling.source).or_else(|| first_idle(reg))
 }
 
-// A report that cannot be booked announces nothing.
-fn unfit(q: Hearing, why: Refusal) -> Booking
-    ensures { Noted q (NotFit why) 0 (filled []) result }
+// What is to be booked, `k` being the station's record: 23, 35.
+#[tactic(auto, unfolding(crate::specs::Booking::noted_of), using(crate::proofs::Noting::rows_inside))]
+fn noted(q: Hearing, k: Option<usize>) -> Result<Booking, Refusal>
+    ensures { result ≡ noted_of q (unwrap_or k records) }
 {
-    let watch = q.watch;
-    let telling = q.telling;
-    let rows = no_rows();
-    Booking {
-        watch,
-        telling,
-        fit: Fit::Refused(why),
-        at: 0,
-        rows,
-        frees: SLOT_TIMES,
-        marks: SLOT_TIMES,
-    }
-}
-
-// What is to be booked: 23, 35.
-pub fn noted(q: Hearing, k: usize) -> Booking
-    ensures { Noted q (fit_of q k) (at_of q k) (rows_of q k) result }
-{
-    if k >= RECORDS {
-        return unfit(q, Refusal::NoRecord);
-    }
-    let watch = q.watch;
-    let telling = q.telling;
-    let state = telling.state;
-    let rows = announced(state);
+    let at = match k {
+        Some(at) if at < RECORDS => at,
+        _ => return Err(Refusal::NoRecord),
+    };
+    let rows = announced(q.telling.state);
     if !within(rows) {
-        return unfit(q, Refusal::BeyondBook);
+        return Err(Refusal::BeyondBook);
     }
-    let frees = next_time(rows, 0, false);
-    let marks = next_time(rows, 0, true);
-    Booking {
-        watch,
-        telling,
-        fit: Fit::Yes,
-        at: k,
+    Ok(Booking {
+        watch: q.watch,
+        telling: q.telling,
+        at,
         rows,
-        frees,
-        marks,
-    }
+    })
 }
 
+#[tactic(auto, unfolding(crate::specs::Booking::place_of))]
 fn place_of(b: Booking) -> usize
-    ensures { result ≡ place_of b }
+    ensures value { result ≡ place_of b }
+    ensures inside { result < records }
 {
-    if b.at < RECORDS {
-        return b.at;
-    }
-    0
+    if b.at < RECORDS { b.at } else { 0 }
 }
 
 // A record that is taken over has hold-off 0.
@@ -252,48 +171,37 @@ fn hold_of(s: Station, source: u32) -> u16
 }
 
 // The record with the station in it.
-fn stored(s: Station, b: Booking) -> Station
-    ensures { result ≡ stored_by s b }
+#[tactic(auto, unfolding(crate::specs::Hear::entered))]
+fn stored(s: Station, x: Telling) -> Station
+    ensures { result ≡ entered x s }
 {
-    let fit = b.fit;
-    let Fit::Yes = fit else {
-        return s;
-    };
-    let x = b.telling;
-    let hold = hold_of(s, x.source);
     Station {
         source: x.source,
         base: x.base,
         latitude: x.latitude,
         longitude: x.longitude,
-        tally: s.tally,
-        hold,
+        hold: hold_of(s, x.source),
+        ..s
     }
 }
 
 // The station is entered in its record.
-pub fn store(reg: &mut [Station], b: Booking)
+fn store(reg: &mut [Station], b: Booking)
     requires { length reg.old ≡ records }
     ensures { reg.new ≡ stored_in reg.old b }
 {
     let k = place_of(b);
-    reg[k] = stored(reg[k], b);
+    reg[k] = stored(reg[k], b.telling);
 }
 
 // ---- the book
 
+#[tactic(auto, unfolding(crate::specs::Booking::holder_of))]
 fn holder_of(b: Booking) -> u16
-    ensures { result ≡ holder_of b }
+    ensures value { result ≡ holder_of b }
+    ensures few { result ≤ records }
 {
     place_of(b) as u16 + 1
-}
-
-fn counts_in(b: Booking) -> Counts
-    ensures { result ≡ b.watch.channel.counts }
-{
-    let watch = b.watch;
-    let channel = watch.channel;
-    channel.counts
 }
 
 // Before the first time.
@@ -312,66 +220,35 @@ fn started(c: Counts, at: usize) -> Turn
     }
 }
 
-fn first_free(b: Booking) -> Turn
-    ensures { result ≡ started b.watch.channel.counts b.frees }
+// The next time of the kind from d on. Where there is none, a run is at the end of the book.
+fn next_from(b: Booking, d: usize, kind: Kind) -> usize
+    requires { (in_book b.rows ≡ true) × (d ≤ slot_times) }
+    ensures { Next (kind_time kind b.rows) d result }
 {
-    started(counts_in(b), b.frees)
+    next_time(b.rows, d, kind).unwrap_or(SLOT_TIMES)
 }
 
-fn first_mark(b: Booking) -> Turn
-    ensures { result ≡ started b.watch.channel.counts b.marks }
+// A place is marked for h, or freed of it.
+fn hand(book: &mut [u16], c: Counts, at: usize, h: u16, kind: Kind) -> Handing
+    requires { at < length book.old }
+    ensures { Puts (λ b. hand_at kind b at h) book.old c result book.new × (result.new ≤ h) }
 {
-    started(counts_in(b), b.marks)
+    match kind {
+        Kind::Mark => mark(book, c, at, h),
+        Kind::Free => free(book, c, at, h),
+    }
 }
 
-fn some_left(t: Turn) -> bool
-    ensures { result ≡ ltb t.at slot_times }
-{
-    t.at < SLOT_TIMES
-}
-
-fn free_one(book: &mut [u16], t: Turn, b: Booking) -> Turn
+// One time more. It is counted if it is the station's then.
+fn book_one(book: &mut [u16], t: Turn, b: Booking, kind: Kind) -> Turn
     requires { Steps book.old t b }
-    ensures { FreesOne book.old t b result book.new }
+    ensures { BooksOne kind book.old t b result book.new }
 {
-    let before = t.handing;
-    let watch = b.watch;
-    let p = place(watch.present, t.at);
-    let handing = free(book, before.counts, p, holder_of(b));
-    let rows = b.rows;
-    let at = next_time(rows, t.at + 1, false);
-    Turn {
-        handing,
-        at,
-        left: 0,
-        marks: 0,
-    }
-}
-
-// 1 where h holds the place.
-fn held(book: &[u16], at: usize, h: u16) -> usize
-    requires { at < length book.now }
-    ensures { result ≡ one (eqb (get_or book.now at 0) h) }
-{
-    if book[at] == h {
-        return 1;
-    }
-    0
-}
-
-// The time is counted if it is the station's then.
-fn mark_one(book: &mut [u16], t: Turn, b: Booking) -> Turn
-    requires { Steps book.old t b × (t.marks < slot_times) }
-    ensures { MarksOne book.old t b result book.new }
-{
-    let before = t.handing;
-    let watch = b.watch;
-    let p = place(watch.present, t.at);
+    let p = place(b.watch.present, t.at);
     let h = holder_of(b);
-    let handing = mark(book, before.counts, p, h);
-    let marks = t.marks + held(book, p, h);
-    let rows = b.rows;
-    let at = next_time(rows, t.at + 1, true);
+    let handing = hand(book, t.handing.counts, p, h, kind);
+    let marks = t.marks + usize::from(book[p] == h);
+    let at = next_from(b, t.at + 1, kind);
     Turn {
         handing,
         at,
@@ -380,76 +257,93 @@ fn mark_one(book: &mut [u16], t: Turn, b: Booking) -> Turn
     }
 }
 
-fn watch_after(b: Booking, t: Turn) -> Watch
-    ensures { result ≡ with_counts b.watch t.handing.counts }
-{
-    let watch = b.watch;
-    let channel = watch.channel;
-    let plan = channel.plan;
-    let handing = t.handing;
-    let counts = handing.counts;
-    let ship = watch.ship;
-    Watch {
-        present: watch.present,
-        channel: Channel { counts, plan },
-        ship,
+// The times that a report frees, or those that it marks.
+#[derive(Clone, Copy)]
+struct Times<'a> {
+    booking: &'a Booking,
+    kind: Kind,
+}
+
+impl<'a> Turns for Times<'a> {
+    ghost stands = { λ r ys bs t zs cs. Counted r.kind r.booking.now ys bs t zs cs };
+
+    ghost more = { λ t. ltb t.at slot_times };
+
+    ghost left = { λ t. slot_times - t.at };
+
+    fn is_left(&self, t: Turn) -> bool {
+        t.at < SLOT_TIMES
+    }
+
+    fn step(&self, book: &mut [u16], t: Turn) -> Turn {
+        book_one(book, t, *self.booking, self.kind)
     }
 }
 
-fn freed(b: Booking, t: Turn) -> Booking
-    ensures { result ≡ rewatched b (with_counts b.watch t.handing.counts) }
+// What the report frees, or what it marks.
+fn book_all(reg: &mut [Station], book: &mut [u16], b: Booking, kind: Kind) -> Turn
+    requires { Booked reg.old book.old b }
+    ensures { BooksAll kind b reg.old book.old result reg.new book.new }
 {
-    let mut r = b;
-    let watch = watch_after(b, t);
-    r.watch = watch;
-    r
+    let times = Times { booking: &b, kind };
+    let first = next_from(b, 0, kind);
+    run(reg, book, started(b.watch.channel.counts, first), &times)
 }
 
-fn marked(b: Booking, t: Turn) -> Reply
-    ensures { result ≡ reply_of b (with_counts b.watch t.handing.counts) t.marks }
+fn watch_after(b: Booking, t: Turn) -> Watch
+    ensures { result ≡ with_counts b.watch t.handing.counts }
 {
-    let watch = watch_after(b, t);
-    let fit = b.fit;
-    let x = b.telling;
-    match fit {
-        Fit::Yes => Reply {
-            watch,
-            answer: Answer::Heard(Marks {
-                source: x.source,
-                marks: t.marks,
-            }),
+    Watch {
+        channel: Channel {
+            counts: t.handing.counts,
+            ..b.watch.channel
         },
-        Fit::Refused(r) => Reply {
-            watch,
-            answer: Answer::Refused(r),
-        },
+        ..b.watch
     }
 }
 
 // What the report frees.
-pub fn free_times(reg: &mut [Station], book: &mut [u16], b: Booking) -> Booking
+fn free_times(reg: &mut [Station], book: &mut [u16], b: Booking) -> Booking
     requires { Booked reg.old book.old b }
     ensures { Ends (freed_out b reg.old book.old) result reg.new book.new }
 {
-    let mut t = first_free(b);
-    while some_left(t) {
-        t = free_one(book, t, b);
-        lose(reg, t);
-        win(reg, t);
+    let t = book_all(reg, book, b, Kind::Free);
+    Booking {
+        watch: watch_after(b, t),
+        ..b
     }
-    freed(b, t)
 }
 
 // What it marks; the answer.
-pub fn mark_times(reg: &mut [Station], book: &mut [u16], b: Booking) -> Reply
+fn mark_times(reg: &mut [Station], book: &mut [u16], b: Booking) -> Reply
     requires { Booked reg.old book.old b }
     ensures { Ends (marked_out b reg.old book.old) result reg.new book.new }
 {
-    let mut t = first_mark(b);
-    while some_left(t) {
-        t = mark_one(book, t, b);
-        lose(reg, t);
-        win(reg, t);
+    let t = book_all(reg, book, b, Kind::Mark);
+    Reply {
+        watch: watch_after(b, t),
+        answer: Ok(Answer::Heard(Marks {
+            source: b.telling.source,
+            marks: t.marks,
+        })),
     }
-    marked(b, t)
+}
+
+// A message that is heard: its station is entered in its record, and what it announces is freed and marked.
+pub fn hear(reg: &mut [Station], book: &mut [u16], q: Hearing) -> Reply
+    requires { (length reg.old ≡ records) × (length book.old ≡ slot_times) }
+    ensures { Ends (out_of (heard_answer (state_of reg.old book.old q.watch) q.telling)) result reg.new book.new }
+{
+    let b = match noted(q, find(reg, q)) {
+        Ok(b) => b,
+        Err(r) => {
+            return Reply {
+                watch: q.watch,
+                answer: Err(r),
+            };
+        }
+    };
+    store(reg, b);
+    let freed = free_times(reg, book, b);
+    mark_times(reg, book, freed)
 }

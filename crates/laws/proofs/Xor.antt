@@ -1,12 +1,13 @@
 -- Exclusive or of numbers, under a shut name, so that terms stay small and `_` is found; and what is linear in it.
 -- Assumes nothing.
 use mathlib.Core.Path.{◌≡◌, refl, sym, ap, ap₂, ◌∙◌}
-use Prim.Native.Nat.{ℕ, zero, suc, ◌+◌, ◌-◌, ◌*◌, ◌/◌, ◌%◌, ◌^◌, ◌<◌}
+use Prim.Native.Nat.{ℕ, zero, suc, ◌-◌, ◌*◌, ◌/◌, ◌%◌, ◌^◌, ◌<◌}
 use native.Mathlib.Nat.{add-zero}
 use native.Mathlib.Decide.{dec_lt}
 use native.Mathlib.Omega.{arith}
 use lib.Dec.{T, eqb}
-use lib.Bits.{bit_xor, differ, xor_step, xor_zero_r, xor_comm, xor_self, xor_lt, xor_block, xor_shr, xor_mod, xor_shifted}
+use lib.Bits.{bit_xor, xor_zero_r, xor_comm, xor_self, xor_lt, xor_block, xor_shr, xor_mod, xor_shifted}
+use Rattle.std.specs.Int.Bits.{xor_assoc}
 use borrow.Author.Tests.{eqb-true}
 use Rattle.laws.proofs.Tests.{is_true}
 use Rattle.laws.proofs.Table.{all_below, below}
@@ -33,43 +34,13 @@ self : (a : ℕ) → xor a a ≡ 0
 unfolding xor
 self a = xor_self a
 
-differ-assoc : (x y z : ℕ) → x < 2 → y < 2 → z < 2 → differ (bit_xor x y) z ≡ differ x (bit_xor y z)
-differ-assoc zero zero zero hx hy hz = refl
-differ-assoc zero zero (suc zero) hx hy hz = refl
-differ-assoc zero (suc zero) zero hx hy hz = refl
-differ-assoc zero (suc zero) (suc zero) hx hy hz = refl
-differ-assoc (suc zero) zero zero hx hy hz = refl
-differ-assoc (suc zero) zero (suc zero) hx hy hz = refl
-differ-assoc (suc zero) (suc zero) zero hx hy hz = refl
-differ-assoc (suc zero) (suc zero) (suc zero) hx hy hz = refl
-differ-assoc (suc (suc x)) y z hx hy hz = absurd (omega arith)
-differ-assoc zero (suc (suc y)) z hx hy hz = absurd (omega arith)
-differ-assoc (suc zero) (suc (suc y)) z hx hy hz = absurd (omega arith)
-differ-assoc zero zero (suc (suc z)) hx hy hz = absurd (omega arith)
-differ-assoc zero (suc zero) (suc (suc z)) hx hy hz = absurd (omega arith)
-differ-assoc (suc zero) zero (suc (suc z)) hx hy hz = absurd (omega arith)
-differ-assoc (suc zero) (suc zero) (suc (suc z)) hx hy hz = absurd (omega arith)
-
-xor_assoc : (k a b c : ℕ) → a < 2 ^ k → b < 2 ^ k → c < 2 ^ k → bit_xor (bit_xor a b) c ≡ bit_xor a (bit_xor b c)
-xor_assoc zero a b c ha hb hc =
-    let ea : a ≡ 0 = omega arith in
-    let ec : c ≡ 0 = omega arith in
-    ap (bit_xor (bit_xor a b)) ec ∙ xor_zero_r (bit_xor a b) ∙ sym (ap (λ (x : ℕ). bit_xor a (bit_xor b x)) ec ∙ ap (bit_xor a) (xor_zero_r b))
-xor_assoc (suc k) a b c ha hb hc =
-    xor_step (bit_xor a b) c
-    ∙ ap₂ (λ (x y : ℕ). bit_xor x (c / 2) * 2 + differ y (c % 2)) (xor_shr a b 1) (xor_mod a b 1)
-    ∙ ap₂ (λ (x y : ℕ). x * 2 + y) (xor_assoc k (a / 2) (b / 2) (c / 2) (omega arith) (omega arith) (omega arith)) (differ-assoc (a % 2) (b % 2) (c % 2) (omega arith) (omega arith) (omega arith))
-    ∙ sym (xor_step a (bit_xor b c) ∙ ap₂ (λ (x y : ℕ). bit_xor (a / 2) x * 2 + differ (a % 2) y) (xor_shr b c 1) (xor_mod b c 1))
-
 below_power : (n : ℕ) → n < 2 ^ n
 below_power zero = omega arith
 below_power (suc n) = omega (arith, below_power n)
 
 assoc : (a b c : ℕ) → xor (xor a b) c ≡ xor a (xor b c)
 unfolding xor
-assoc a b c =
-    let h = below_power (a + b + c) in
-    xor_assoc (a + b + c) a b c (omega arith) (omega arith) (omega arith)
+assoc a b c = xor_assoc a b c
 
 pub swap : (a b c d : ℕ) → xor (xor a b) (xor c d) ≡ xor (xor a c) (xor b d)
 swap a b c d =

@@ -1,5 +1,6 @@
 // The limits of document 01, each once and by name; one that follows from others is computed from them. Promise: none of its own, since there is no
-// function here. specs/Limits.antt has the same limits for definitions, and every function that uses one is proved against those.
+// function here. specs/Limits.antt has the same limits for definitions, and every function that uses one is proved against those. They are `usize`; a crate that
+// counts in 16 bits names such a limit once more, in its own type, since a name has one type.
 #![tactic(auto)]
 
 // ---- the slot book

@@ -1,24 +1,31 @@
 -- What a list of numbers says, by the tests on the way.
 -- Assumes nothing.
-use mathlib.Core.Path.{◌≡◌, refl, sym, ◌∙◌}
-use mathlib.Core.Bool.{true, false}
+use mathlib.Core.Path.{◌≡◌, refl, ◌∙◌}
+use mathlib.Core.Bool.{false}
 use mathlib.Core.List.{List}
 use Prim.Native.Nat.{ℕ, ◌+◌, ◌-◌, ◌/◌, ◌%◌, ◌≤◌, ◌<◌}
 use native.Mathlib.Omega.{arith}
-use borrow.Author.Tests.{eq-eqb, ne_eqb, le-leb, lt-leb, ltb-true}
+use borrow.Author.Tests.{eq-eqb, ne_eqb, le-leb, lt-leb}
+use mir.Syntax.{w32}
+use mir.Val.{SFits}
 use lib.Dec.{eqb}
-use lib.IntN.{ℤ, pos, negsuc}
-use lib.Signed.{lt_z}
+use lib.IntN.{ℤ, pos, negsuc, nat_abs}
+use Rattle.std.specs.Prelude.{Result, Ok, Err}
+use Rattle.std.specs.Result.{OkIff, result_unwrap_or}
+use Rattle.std.specs.Int.{FitsUnsignedBits}
 use Rattle.message.specs.declared.Message.TheVariants.{One, Two, Three, Four, Other}
 use Rattle.message.specs.declared.state.SubMessage.TheVariants.{Offset, Time, Slot, Stations}
 use Rattle.listing.specs.Listing.{plain_of, plain_at, report_in, base_in, pairs_of, sub_said, organised_in, incremental_in, message_in}
 
 -- ---- one number
 
-pub plain-below : (x : ℤ) → lt_z x (pos 0) ≡ true → 4294967295 ≡ plain_of x
+-- what `try_from` says of it
+pub plain-is : {E : Type 0} (x : ℤ) (r : Result ℕ E) → SFits w32 x → OkIff r (FitsUnsignedBits 32 x) (nat_abs x) → result_unwrap_or r 4294967295 ≡ plain_of x
 unfolding plain_of
-plain-below (pos n) e = absurd (omega (arith, ltb-true n 0 e))
-plain-below (negsuc n) e = refl
+plain-is (pos n) (Ok v) s h = h.1
+plain-is (pos n) (Err e) s h = absurd (h (omega (arith, s.sfits)))
+plain-is (negsuc n) (Ok v) s h = absurd h.0
+plain-is (negsuc n) (Err e) s h = refl
 
 -- ---- a time-out
 
@@ -51,32 +58,26 @@ module _ (f : List ℤ) (at t v : ℕ) (e : v ≡ plain_at f (at + 1)) where
 
 -- ---- a message by its id
 
-module _ (f : List ℤ) (id : ℕ) (e : id ≡ plain_at f 0) where
-  is : {k : ℕ} → id ≡ k → eqb (plain_at f 0) k ≡ true
-  is {k = k} h = eq-eqb (plain_at f 0) k (sym e ∙ h)
-
-  is-not : {k : ℕ} → (id ≡ k → ⊥) → eqb (plain_at f 0) k ≡ false
-  is-not {k = k} n = ne_eqb (plain_at f 0) k (λ h. n (e ∙ h))
-
-  pub message-one : id ≡ 1 → One (report_in f) (organised_in f 15) ≡ message_in f
+module _ (f : List ℤ) where
+  pub message-one : plain_at f 0 ≡ 1 → One (report_in f) (organised_in f 15) ≡ message_in f
   unfolding message_in
-  message-one h = simp (is h)
+  message-one e = rw e refl
 
-  module _ (a : id ≡ 1 → ⊥) where
-    pub message-two : id ≡ 2 → Two (report_in f) (organised_in f 15) ≡ message_in f
-    unfolding message_in
-    message-two h = simp (is-not a, is h)
+  pub message-two : plain_at f 0 ≡ 2 → Two (report_in f) (organised_in f 15) ≡ message_in f
+  unfolding message_in
+  message-two e = rw e refl
 
-    module _ (b : id ≡ 2 → ⊥) where
-      pub message-three : id ≡ 3 → Three (report_in f) (incremental_in f) ≡ message_in f
-      unfolding message_in
-      message-three h = simp (is-not a, is-not b, is h)
+  pub message-three : plain_at f 0 ≡ 3 → Three (report_in f) (incremental_in f) ≡ message_in f
+  unfolding message_in
+  message-three e = rw e refl
 
-      module _ (c : id ≡ 3 → ⊥) where
-        pub message-four : id ≡ 4 → Four (base_in f) (organised_in f 16) ≡ message_in f
-        unfolding message_in
-        message-four h = simp (is-not a, is-not b, is-not c, is h)
+  pub message-four : plain_at f 0 ≡ 4 → Four (base_in f) (organised_in f 16) ≡ message_in f
+  unfolding message_in
+  message-four e = rw e refl
 
-        pub message-other : (id ≡ 4 → ⊥) → Other ≡ message_in f
-        unfolding message_in
-        message-other d = simp (is-not a, is-not b, is-not c, is-not d)
+  is-not : {k : ℕ} (id : ℕ) → id ≡ plain_at f 0 → (id ≡ k → ⊥) → eqb (plain_at f 0) k ≡ false
+  is-not {k} id e n = ne_eqb (plain_at f 0) k (λ h. n (e ∙ h))
+
+  pub message-other : (id : ℕ) → id ≡ plain_at f 0 → (id ≡ 1 → ⊥) → (id ≡ 2 → ⊥) → (id ≡ 3 → ⊥) → (id ≡ 4 → ⊥) → Other ≡ message_in f
+  unfolding message_in
+  message-other id e a b c d = simp (is-not id e a, is-not id e b, is-not id e c, is-not id e d)

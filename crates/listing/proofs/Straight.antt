@@ -46,6 +46,12 @@ sub-plain zero v n = refl
 sub-plain (suc zero) v n = absurd (n refl)
 sub-plain (suc (suc t)) v n = counted (suc (suc t)) v (omega arith) (ℕ_discrete (suc (suc t) % 2) 0)
 
+-- put one by one
+pub two-put : (l : List ℤ) (at : ℕ) {x y x' y' : ℤ} → x ≡ x' → y ≡ y' → set (set l (at + 1) x) (at + 2) y ≡ sets l (at + 1) (x' ∷ y' ∷ [])
+two-put l at e f =
+    let two : at + 2 ≡ suc (at + 1) = omega arith in
+    λ j. set (set l (at + 1) (e j)) (two j) (f j)
+
 -- the sync state x, and after it the numbers of the sub-message
 pub organised-put : (v : ℕ) (xs out out' : List ℤ) (at r : ℕ) (x : ℤ) → sub_numbers (organised_from v).sub ≡ xs → x ≡ pos (v / 131072)
     → r ≡ at + 1 + length xs → out' ≡ sets (set out at x) (at + 1) xs

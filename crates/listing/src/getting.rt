@@ -3,18 +3,15 @@ ghost use Rattle.std.specs.Prelude.{◌≡◌, ◌+◌, ◌≤◌, ◌<◌, leng
 ghost use Rattle.limits.specs.Limits.{list_places};
 ghost use Rattle.listing.specs.Listing.{plain_of, plain_at, report_in, base_in, pairs_of, sub_said, organised_in, incremental_in};
 
-use bits::reader::Four;
+use bits::row::Four;
 use message::state::{Clock, Counted, Incremental, SelfOrganised, SubMessage};
 use message::{Base, Report};
 
-// A number below 0 is too wide for every field.
+// A number below 0 becomes one that is too wide for every field, so that the one test of widths refuses it.
 fn plain(x: i32) -> u32
     ensures { result ≡ plain_of x }
 {
-    if x < 0 {
-        return 4294967295;
-    }
-    x as u32
+    u32::try_from(x).unwrap_or(u32::MAX)
 }
 
 pub fn plain_at(list: &[i32], i: usize) -> u32
@@ -41,9 +38,6 @@ pub fn report_in(list: &[i32]) -> Report
     requires { list_places ≤ length list.now }
     ensures { result ≡ report_in list.now }
 {
-    let turn = list[4];
-    let longitude = list[7];
-    let latitude = list[8];
     // the fourth of the first ones is the turn
     let f = plain_four(list, 1);
     let g = plain_four(list, 11);
@@ -51,11 +45,11 @@ pub fn report_in(list: &[i32]) -> Report
         repeat: f.a,
         source: f.b,
         status: f.c,
-        turn,
+        turn: list[4],
         speed: plain_at(list, 5),
         accuracy: plain_at(list, 6),
-        longitude,
-        latitude,
+        longitude: list[7],
+        latitude: list[8],
         course: plain_at(list, 9),
         heading: plain_at(list, 10),
         second: g.a,
@@ -69,8 +63,6 @@ pub fn base_in(list: &[i32]) -> Base
     requires { list_places ≤ length list.now }
     ensures { result ≡ base_in list.now }
 {
-    let longitude = list[10];
-    let latitude = list[11];
     let f = plain_four(list, 1);
     let g = plain_four(list, 5);
     let h = plain_four(list, 12);
@@ -84,8 +76,8 @@ pub fn base_in(list: &[i32]) -> Base
         minute: g.c,
         second: g.d,
         accuracy: plain_at(list, 9),
-        longitude,
-        latitude,
+        longitude: list[10],
+        latitude: list[11],
         fix: h.a,
         control: h.b,
         spare: h.c,
@@ -93,7 +85,7 @@ pub fn base_in(list: &[i32]) -> Base
     }
 }
 
-// Which of every other time-out from 2 or 3 on; past 7 one that is too wide.
+// Which of every other time-out from 2 or 3 on; past 7 one that is too wide, which the same test refuses.
 fn pairs(t: u32) -> u8
     requires { 2 ≤ t }
     ensures { result ≡ pairs_of t }

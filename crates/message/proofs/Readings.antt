@@ -3,9 +3,9 @@
 use mathlib.Core.Path.{◌≡◌, refl, sym, ap, subst, ◌∙◌}
 use mathlib.Core.Bool.{Bool, true, false}
 use mathlib.Core.List.{List}
-use Prim.Native.Nat.{ℕ, ◌+◌, ◌-◌, ◌*◌, ◌/◌, ◌%◌, ◌^◌, ◌≤◌, ◌<◌}
+use Prim.Native.Nat.{ℕ, ◌+◌, ◌-◌, ◌/◌, ◌%◌, ◌^◌, ◌≤◌, ◌<◌}
 use native.Mathlib.Omega.{arith}
-use borrow.Author.Tests.{eq-eqb, ne_eqb, le-leb, lt-leb}
+use borrow.Author.Tests.{eq-eqb, ne_eqb}
 use borrow.Author.Rules.{sfits_of}
 use mir.Syntax.{w32}
 use mir.Val.{to_z, of_z}
@@ -14,14 +14,15 @@ use lib.Dec.{eqb, lit≤}
 use lib.IntN.{ℤ}
 use lib.Signed.{mag}
 use lib.ListN.{length}
+use Rattle.std.specs.Prelude.{Ok, Err}
 use Rattle.laws.specs.Tests.{pick, between}
-use Rattle.laws.proofs.Tests.{between-low, between-high, both-no}
+use Rattle.laws.proofs.Tests.{between-low, between-high}
 use Rattle.limits.specs.Limits.{message_bytes}
 use Rattle.numbers.specs.declared.Refusal.TheVariants.{MessageLength, UnknownId}
 use Rattle.bits.specs.Field.{field_of}
 use Rattle.bits.proofs.Fields.{field_bound, field-part}
 use Rattle.message.specs.Signs.{signed_of}
-use Rattle.message.specs.Sheet.{state_bits, clock_from, sub_by, organised_from, incremental_from, state_from, StandsIn, one_or_two, clock_value}
+use Rattle.message.specs.Sheet.{state_bits, clock_from, sub_by, organised_from, incremental_from, state_from, StandsIn, one_or_two}
 use Rattle.message.specs.State.{clock_of, sub_of, incremental_of, organised_of}
 use Rattle.message.specs.Message.{id_in, report_of, base_of, organised_message, message_of, read_answer}
 use Rattle.message.specs.declared.state.Clock.{Clock}
@@ -30,7 +31,6 @@ use Rattle.message.specs.declared.state.Incremental.{Incremental}
 use Rattle.message.specs.declared.state.SubMessage.TheVariants.{Offset, Time, Slot, Stations}
 use Rattle.message.specs.declared.state.State.TheVariants.{SelfOrganised as Organised, Incremental as Increasing}
 use Rattle.message.specs.declared.Message.TheVariants.{Three, Four}
-use Rattle.message.specs.declared.Received.TheVariants.{Message as Got, Refused}
 
 -- ---- a field that was read, and what it means
 
@@ -96,30 +96,11 @@ module _ (l : List ℕ) (long : length l ≡ message_bytes) where
       λ k. record { sync = sync k; increment = sym (part 149 2 13 4 (lit≤ tt)) k; code = sym (part 149 15 3 1 (lit≤ tt)) k; keep = keep k }
 
   -- in message 4 the bit before them is read with them
-  pub raim-apart : field_of l 148 20 / 524288 ≡ field_of l 148 1
+  pub raim-apart : field_of l 148 20 / 2 ^ 19 ≡ field_of l 148 1
   raim-apart = omega (arith, part 148 0 1 19 (lit≤ tt), field_bound l 148 20)
 
-  pub state-apart : field_of l 148 20 % 524288 ≡ state_bits l
-  state-apart = omega (arith, part 148 1 19 0 (lit≤ tt))
-
--- ---- the clock as one number
-
-module _ (c : Clock) where
-  pub clock-hour : 31 < c.hour → 16384 ≡ clock_value c
-  unfolding clock_value
-  clock-hour h = simp (lt-leb c.hour 31 h)
-
-  pub clock-minute : 127 < c.minute → 16384 ≡ clock_value c
-  unfolding clock_value
-  clock-minute h = simp (lt-leb c.minute 127 h, both-no)
-
-  pub clock-unused : 3 < c.unused → 16384 ≡ clock_value c
-  unfolding clock_value
-  clock-unused h = simp (lt-leb c.unused 3 h, both-no)
-
-  pub clock-fits : c.hour ≤ 31 → c.minute ≤ 127 → c.unused ≤ 3 → c.hour * 512 + c.minute * 4 + c.unused ≡ clock_value c
-  unfolding clock_value
-  clock-fits h m u = simp (le-leb c.hour 31 h, le-leb c.minute 127 m, le-leb c.unused 3 u)
+  pub state-apart : field_of l 148 20 / 2 ^ 0 % 2 ^ 19 ≡ state_bits l
+  state-apart = sym (part 148 1 19 0 (lit≤ tt))
 
 -- ---- a message by its id
 
@@ -165,19 +146,19 @@ module _ (l : List ℕ) where
 
 -- ---- reading
 
-pub read_length : (l : List ℕ) → (length l ≡ message_bytes → ⊥) → read_answer l ≡ Refused MessageLength
+pub read_length : (l : List ℕ) → (length l ≡ message_bytes → ⊥) → read_answer l ≡ Err MessageLength
 unfolding read_answer
 read_length l n = simp (ne_eqb (length l) message_bytes n)
 
 module _ (l : List ℕ) (e : length l ≡ message_bytes) where
-  pub read_low : id_in l < 1 → read_answer l ≡ Refused UnknownId
+  pub read_low : id_in l < 1 → read_answer l ≡ Err UnknownId
   unfolding read_answer
   read_low h = simp (eq-eqb (length l) message_bytes e, between-low 1 4 (id_in l) h)
 
-  pub read-high : 4 < id_in l → read_answer l ≡ Refused UnknownId
+  pub read-high : 4 < id_in l → read_answer l ≡ Err UnknownId
   unfolding read_answer
   read-high h = simp (eq-eqb (length l) message_bytes e, between-high 1 4 (id_in l) h)
 
-  pub read-good : between 1 4 (id_in l) ≡ true → Got (message_of l) ≡ read_answer l
+  pub read-good : between 1 4 (id_in l) ≡ true → Ok (message_of l) ≡ read_answer l
   unfolding read_answer
   read-good h = simp (eq-eqb (length l) message_bytes e, h)

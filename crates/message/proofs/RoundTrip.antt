@@ -11,6 +11,7 @@ use lib.Dec.{eqb}
 use lib.IntN.{ℤ}
 use lib.ListN.{length, drop}
 use lib.Seq.{take_all}
+use Rattle.std.specs.Prelude.{Ok}
 use Rattle.laws.specs.Tests.{pick, between}
 use Rattle.laws.specs.Lists.{over, AllBytes}
 use Rattle.laws.proofs.Tests.{between_is}
@@ -22,15 +23,15 @@ use Rattle.bits.specs.Row.{laid, width_of, all_fit, row_at, widths_of}
 use Rattle.bits.proofs.Bytes.{length-eights}
 use Rattle.bits.proofs.Fields.{length-bits, packed-bits, bits-packed, field_bound}
 use Rattle.bits.proofs.Rows.{length-laid, laid-bits, row_laid, laid-row}
+use Rattle.numbers.specs.Numbers.{number_given}
 use Rattle.message.specs.Signs.{signed_of, unsigned_of}
 use Rattle.message.specs.State.{clock_of, sub_of, organised_of, incremental_of, time_out_of, sub_row, organised_row, incremental_row}
-use Rattle.message.specs.Message.{received_number, written_number, id_in, report_of, base_of, organised_message, message_of, read_tests, read_answer, report_row, base_row, row_of, known, write_tests, write_answer, bytes_of, write_out}
+use Rattle.message.specs.Message.{id_in, report_of, base_of, organised_message, message_of, read_tests, read_answer, report_row, base_row, row_of, known, write_tests, write_answer, bytes_of, write_out}
 use Rattle.message.specs.Promises.{ReadAfterWrite, WriteAfterRead, ReadOnce, WriteOnce}
 use Rattle.message.specs.declared.Report.{Report}
 use Rattle.message.specs.declared.Base.{Base}
 use Rattle.message.specs.declared.Message.{Message}
 use Rattle.message.specs.declared.Message.TheVariants.{One, Two, Three, Four, Other}
-use Rattle.message.specs.declared.Received.TheVariants.{Message as Got}
 use Rattle.message.specs.declared.state.SubMessage.{SubMessage}
 use Rattle.message.specs.declared.state.SubMessage.TheVariants.{Offset, Time, Slot, Stations}
 use Rattle.message.specs.declared.state.SelfOrganised.{SelfOrganised}
@@ -223,26 +224,26 @@ module _ (m : Message) (k : known m ≡ true) (fit : all_fit (row_of m) ≡ true
   written_row = row_laid (row_of m) (bytes_of m) [] [] 0 refl (written-bits ∙ sym (append-nil (laid (row_of m)))) fit
 
   -- by the id that stands in the bytes
-  read_as : (id : ℕ) → between 1 4 id ≡ true → id_in (bytes_of m) ≡ id → read_answer (bytes_of m) ≡ Got (message_at (bytes_of m) id)
+  read_as : (id : ℕ) → between 1 4 id ≡ true → id_in (bytes_of m) ≡ id → read_answer (bytes_of m) ≡ Ok (message_at (bytes_of m) id)
   unfolding bytes_of packed message_of
   read_as id h e =
       let l = bytes_of m in
-      sym (read-good l (length-eights (high_value 0) message_bytes (laid (row_of m))) (subst (λ n. between 1 4 n ≡ true) (sym e) h)) ∙ ap (λ (n : ℕ). Got (message_at l n)) e
+      sym (read-good l (length-eights (high_value 0) message_bytes (laid (row_of m))) (subst (λ n. between 1 4 n ≡ true) (sym e) h)) ∙ ap (λ (n : ℕ). Ok (message_at l n)) e
 
-message-back : (m : Message) → known m ≡ true → all_fit (row_of m) ≡ true → read_answer (bytes_of m) ≡ Got m
+message-back : (m : Message) → known m ≡ true → all_fit (row_of m) ≡ true → read_answer (bytes_of m) ≡ Ok m
 unfolding organised_message
 message-back (One r s) k fit =
     let t = report-read (bytes_of (One r s)) 1 r (organised_row s) (written_row (One r s) k fit) in
-    read_as (One r s) k fit 1 refl t.0 ∙ ap Got (ap₂ One t.1 (organised-read (bytes_of (One r s)) s t.2))
+    read_as (One r s) k fit 1 refl t.0 ∙ ap Ok (ap₂ One t.1 (organised-read (bytes_of (One r s)) s t.2))
 message-back (Two r s) k fit =
     let t = report-read (bytes_of (Two r s)) 2 r (organised_row s) (written_row (Two r s) k fit) in
-    read_as (Two r s) k fit 2 refl t.0 ∙ ap Got (ap₂ Two t.1 (organised-read (bytes_of (Two r s)) s t.2))
+    read_as (Two r s) k fit 2 refl t.0 ∙ ap Ok (ap₂ Two t.1 (organised-read (bytes_of (Two r s)) s t.2))
 message-back (Three r s) k fit =
     let t = report-read (bytes_of (Three r s)) 3 r (incremental_row s) (written_row (Three r s) k fit) in
-    read_as (Three r s) k fit 3 refl t.0 ∙ ap Got (ap₂ Three t.1 (incremental-read (bytes_of (Three r s)) s t.2))
+    read_as (Three r s) k fit 3 refl t.0 ∙ ap Ok (ap₂ Three t.1 (incremental-read (bytes_of (Three r s)) s t.2))
 message-back (Four b s) k fit =
     let t = base_read (bytes_of (Four b s)) b (organised_row s) (written_row (Four b s) k fit) in
-    read_as (Four b s) k fit 4 refl t.0 ∙ ap Got (ap₂ Four t.1 (organised-read (bytes_of (Four b s)) s t.2))
+    read_as (Four b s) k fit 4 refl t.0 ∙ ap Ok (ap₂ Four t.1 (organised-read (bytes_of (Four b s)) s t.2))
 message-back Other k fit = cc
 
 -- ---- writing what was read
@@ -265,10 +266,10 @@ bytes-again l m n k s bytes =
     ap₂ packed (sym n) bits ∙ packed-bits l bytes
 
 -- what an accepted message says stands in the bytes
-stands-again : (l : List ℕ) (m : Message) → read_answer l ≡ Got m → (length l ≡ message_bytes) × (known m ≡ true) × Stands l 0 (row_of m)
+stands-again : (l : List ℕ) (m : Message) → read_answer l ≡ Ok m → (length l ≡ message_bytes) × (known m ≡ true) × Stands l 0 (row_of m)
 unfolding read_tests message_of
 stands-again l m e =
-    let t = (received-exactly l).none.0 (ap received_number e) in
+    let t = (received-exactly l).none.0 (ap number_given e) in
     let n = eqb-true (length l) message_bytes t.0 in
     let b = between_is 1 4 (id_in l) t.1 in
     let got = read-good l n t.1 ∙ e in
@@ -281,7 +282,7 @@ stands-again l m e =
 pub read-after-write : ReadAfterWrite
 unfolding write_tests
 read-after-write m room e =
-    let t = (written-exactly m room).none.0 (ap written_number e) in
+    let t = (written-exactly m room).none.0 (ap number_given e) in
     message-back m t.1.0 t.1.1
 
 pub write-after-read : WriteAfterRead

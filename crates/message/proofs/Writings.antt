@@ -1,14 +1,15 @@
 -- Rows that are tested and laid part by part, and which answer the tests on the way lead to, where a message is written.
 -- Assumes nothing.
 use mathlib.Core.Path.{◌≡◌, refl, sym, ap, ap₂, ◌∙◌}
-use mathlib.Core.Bool.{Bool, true, false}
+use mathlib.Core.Bool.{Bool, true, false, ◌&&◌}
 use mathlib.Core.List.{List, [], ◌∷◌, ◌++◌, append-nil, append_assoc}
-use Prim.Native.Nat.{ℕ, ◌+◌, ◌*◌, ◌≤◌, ◌<◌}
+use Prim.Native.Nat.{ℕ, ◌+◌, ◌*◌, ◌%◌, ◌≤◌, ◌<◌}
 use native.Mathlib.Omega.{arith}
-use borrow.Author.Tests.{le-leb, lt-leb, lt-ltb}
-use lib.Dec.{leb, ltb, leb-suc-suc}
-use lib.ListN.{length, get_or}
-use Rattle.laws.specs.Tests.{both, pick}
+use borrow.Author.Tests.{le-leb, lt-leb}
+use lib.Dec.{T, leb, ltb, lit≤, lit<}
+use lib.ListN.{length, take, get_or}
+use Rattle.std.specs.Prelude.{Option, Some, None, Ok, Err}
+use Rattle.laws.specs.Tests.{both}
 use Rattle.laws.specs.Lists.{over}
 use Rattle.laws.proofs.Tests.{both_yes}
 use Rattle.laws.proofs.Lists.{all-bytes}
@@ -16,23 +17,40 @@ use Rattle.limits.specs.Limits.{message_bytes}
 use Rattle.numbers.specs.declared.Refusal.TheVariants.{NoRoom, UnknownId, TooWide}
 use Rattle.bits.specs.Bits.{high_first}
 use Rattle.bits.specs.Field.{packed}
-use Rattle.bits.specs.Row.{laid, width_of, all_fit, lay_over, four_row, joined_four}
-use Rattle.bits.proofs.Rows.{laid-append, width-append, fit_append, fit-both, lay-next, lay-whole, four-fits, four-bits}
-use Rattle.bits.specs.declared.reader.Four.{Four}
-use Rattle.message.specs.State.{time_out_of, sub_row, organised_row}
+use Rattle.bits.specs.Row.{laid, width_of, all_fit, lay_over, four_row, one_of}
+use Rattle.bits.proofs.Rows.{laid-append, width-append, fit_append, fit-both, lay-next, lay-whole, one-fit, one-laid}
+use Rattle.bits.specs.declared.row.Four.{Four}
+use Rattle.message.specs.State.{time_out_of, sub_row, organised_row, incremental_row}
 use Rattle.message.specs.Message.{report_row, base_row, row_of, known, write_answer}
-use Rattle.message.specs.Sheet.{clock_value, value_of, organised_four, incremental_four, report_rows, base_rows, sheet_of, EachFits, report_fields, base_fields, head_fields, state_fields, fields_in}
-use Rattle.message.specs.declared.state.Clock.{Clock}
+use Rattle.message.specs.Sheet.{
+  clock_four,
+  value_of,
+  organised_four,
+  organised_value,
+  incremental_four,
+  incremental_value,
+  widths,
+  report_layout,
+  base_layout,
+  after,
+  Lies,
+  Whole,
+  last_four,
+  sheet_of,
+  row,
+  fields_in,
+  fields_of,
+}
+use Rattle.message.specs.declared.Base.{Base}
 use Rattle.message.specs.declared.state.SubMessage.{SubMessage}
 use Rattle.message.specs.declared.state.SubMessage.TheVariants.{Offset, Time, Slot, Stations}
 use Rattle.message.specs.declared.state.SelfOrganised.{SelfOrganised}
-use Rattle.message.specs.declared.Report.{Report}
-use Rattle.message.specs.declared.writing.Rows.{Rows}
+use Rattle.message.specs.declared.state.Incremental.{Incremental}
+use Rattle.message.specs.declared.layout.Layout.{Layout}
+use Rattle.message.specs.declared.layout.Rows.{Rows}
 use Rattle.message.specs.declared.writing.Sheet.{Sheet}
-use Rattle.message.specs.declared.writing.Sheet.TheVariants.{Known, Unknown}
 use Rattle.message.specs.declared.Message.{Message}
 use Rattle.message.specs.declared.Message.TheVariants.{One, Two, Three, Four as Station, Other}
-use Rattle.message.specs.declared.Written.TheVariants.{Done, Refused as NotWritten}
 
 -- ---- two rows, one after the other
 
@@ -56,87 +74,56 @@ nothing-laid fs = laid-append fs ((0, 0) ∷ []) ∙ append-nil (laid fs)
 
 -- ---- four rows, as the code tests and lays them
 
-module _ (a b c d : List (ℕ × ℕ)) where
-  pub fit_all : {t u v w p q r : Bool} → t ≡ all_fit a → u ≡ all_fit b → v ≡ all_fit c → w ≡ all_fit d → p ≡ both t u → q ≡ both v w → r ≡ both p q
-      → r ≡ all_fit (a ++ b ++ c ++ d)
-  fit_all e f g h k l m =
-      m ∙ fit-two (a ++ b) (c ++ d) (k ∙ fit-two a b e f) (l ∙ fit-two c d g h) ∙ ap all_fit (sym (append_assoc (a ++ b) c d))
+and-both : (t u : Bool) → t && u ≡ both t u
+and-both true u = refl
+and-both false u = refl
 
-  pub each : all_fit (a ++ b ++ c ++ d) ≡ true → EachFits (a, b, c, d)
+four-width : (f : Four) (a b c d : ℕ) → width_of (four_row f a b c d) ≡ a + b + c + d
+unfolding width_of
+four-width f a b c d = omega arith
+
+module _ (a b c d : List (ℕ × ℕ)) where
+  pub fit_all : {t u v w : Bool} → t ≡ all_fit a → u ≡ all_fit b → v ≡ all_fit c → w ≡ all_fit d → (t && u) && (v && w) ≡ all_fit (a ++ b ++ c ++ d)
+  fit_all {t} {u} {v} {w} e f g h =
+      and-both (t && u) (v && w) ∙ fit-two (a ++ b) (c ++ d) (and-both t u ∙ fit-two a b e f) (and-both v w ∙ fit-two c d g h)
+      ∙ ap all_fit (sym (append_assoc (a ++ b) c d))
+
+  each : all_fit (a ++ b ++ c ++ d) ≡ true → (all_fit a ≡ true) × (all_fit b ≡ true) × (all_fit c ≡ true) × (all_fit d ≡ true)
   each e =
       let f = fit-both (a ++ b ++ c) d e in
       let g = fit-both (a ++ b) c f.0 in
       let h = fit-both a b g.0 in
       (h.0, h.1, g.1, f.1)
 
-  pub lays : (l : List ℕ) {l₁ l₂ l₃ l₄ : List ℕ} → width_of a + width_of b + width_of c + width_of d ≤ 8 * length l
-      → l₁ ≡ lay_over l 0 a → l₂ ≡ lay_over l₁ (width_of a) b → l₃ ≡ lay_over l₂ (width_of a + width_of b) c → l₄ ≡ lay_over l₃ (width_of a + width_of b + width_of c) d
-      → l₄ ≡ lay_over l 0 (a ++ b ++ c ++ d)
-  lays l h e f g k =
-      let two = width-append a b in
-      let three = width-append (a ++ b) c ∙ ap (◌+ width_of c) two in
-      lay-more (a ++ b ++ c) d l three h (lay-more (a ++ b) c l two (omega arith) (lay-more a b l refl (omega arith) e f) g) k
+  wide : width_of (a ++ b ++ c ++ d) ≡ width_of a + width_of b + width_of c + width_of d
+  wide = omega (arith, width-append (a ++ b ++ c) d, width-append (a ++ b) c, width-append a b)
 
--- ---- the state as four numbers
+  lays : (l : List ℕ) {l₁ l₂ l₃ l₄ : List ℕ} {i j k : ℕ} → width_of a + width_of b + width_of c + width_of d ≤ 8 * length l
+      → i ≡ width_of a → j ≡ i + width_of b → k ≡ j + width_of c
+      → l₁ ≡ lay_over l 0 a → l₂ ≡ lay_over l₁ i b → l₃ ≡ lay_over l₂ j c → l₄ ≡ lay_over l₃ k d → l₄ ≡ lay_over l 0 (a ++ b ++ c ++ d)
+  lays l {i = i} {j = j} {k = k} room at-b at-c at-d e f g h =
+      let two : width_of (a ++ b) ≡ j = omega (arith, width-append a b) in
+      let three : width_of (a ++ b ++ c) ≡ k = omega (arith, width-append (a ++ b) c) in
+      lay-more (a ++ b ++ c) d l three (omega arith) (lay-more (a ++ b) c l two (omega arith) (lay-more a b l (sym at-b) (omega arith) e f) g) h
 
-abbrev clock_four : Clock → Four
-clock_four c = record { a = c.hour; b = c.minute; c = c.unused; d = 0 }
+pub rows-fit : (y : Layout) (x : Rows) → all_fit (fields_in y x) ≡ true
+    → (all_fit (row x.a y.a) ≡ true) × (all_fit (row x.b y.b) ≡ true) × (all_fit (row x.c y.c) ≡ true) × (all_fit (row x.d y.d) ≡ true)
+rows-fit y x e = each (row x.a y.a) (row x.b y.b) (row x.c y.c) (row x.d y.d) e
 
-module _ (c : Clock) where
-  clock-test : both (leb c.hour 31) (both (leb c.minute 127) (leb c.unused 3)) ≡ all_fit (sub_row (Time c))
-  unfolding all_fit
-  clock-test = sym (ap₂ both (leb-suc-suc c.hour 31) (ap₂ both (leb-suc-suc c.minute 127) (both_yes (ltb c.unused 4) ∙ leb-suc-suc c.unused 3)))
+-- the rows of a whole message, one after the other
+pub laid-whole : (y : Layout) (x : Rows) → Whole y → (l : List ℕ) {l₁ l₂ l₃ l₄ : List ℕ} {i j k : ℕ} → ((n : ℕ) → get_or l n 0 < 256) → message_bytes ≤ length l
+    → i ≡ after 0 y.a → j ≡ i + after 0 y.b → k ≡ j + after 0 y.c
+    → l₁ ≡ lay_over l 0 (row x.a y.a) → l₂ ≡ lay_over l₁ i (row x.b y.b) → l₃ ≡ lay_over l₂ j (row x.c y.c) → l₄ ≡ lay_over l₃ k (row x.d y.d)
+    → l₄ ≡ over (packed message_bytes (laid (fields_in y x))) l
+laid-whole y x w l bytes room at-b at-c at-d e f g h =
+    let a = four-width x.a y.a.0 y.a.1 y.a.2 y.a.3 in
+    let b = four-width x.b y.b.0 y.b.1 y.b.2 y.b.3 in
+    let c = four-width x.c y.c.0 y.c.1 y.c.2 y.c.3 in
+    let d = four-width x.d y.d.0 y.d.1 y.d.2 y.d.3 in
+    lays (row x.a y.a) (row x.b y.b) (row x.c y.c) (row x.d y.d) l (omega (arith, w.all)) (omega arith) (omega arith) (omega arith) e f g h
+    ∙ lay-whole l message_bytes (fields_in y x) (all-bytes l bytes) (wide (row x.a y.a) (row x.b y.b) (row x.c y.c) (row x.d y.d) ∙ omega (arith, w.all)) room
 
-  clock-wide : all_fit (sub_row (Time c)) ≡ false → clock_value c ≡ 16384
-  unfolding clock_value
-  clock-wide e = simp (clock-test ∙ e)
-
-  module _ (e : all_fit (sub_row (Time c)) ≡ true) where
-    clock-joined : clock_value c ≡ joined_four (clock_four c) 7 2 0
-    unfolding clock_value
-    clock-joined = simp (clock-test ∙ e) (omega arith)
-
-    clock-four : all_fit (four_row (clock_four c) 5 7 2 0) ≡ true
-    clock-four = nothing-fit (sub_row (Time c)) ∙ e
-
-  clock-fit : (b : Bool) → all_fit (sub_row (Time c)) ≡ b → all_fit ((14, clock_value c) ∷ []) ≡ b
-  unfolding all_fit
-  clock-fit true e = both_yes (ltb (clock_value c) 16384) ∙ lt-ltb (clock_value c) 16384 (rw (clock-joined e) (four-fits (clock_four c) 5 7 2 0 (clock-four e)))
-  clock-fit false e = ap (λ (v : ℕ). all_fit ((14, v) ∷ [])) (clock-wide e)
-
-  clock-laid : all_fit (sub_row (Time c)) ≡ true → laid ((14, clock_value c) ∷ []) ≡ laid (sub_row (Time c))
-  unfolding laid
-  clock-laid e = append-nil (high_first 14 (clock_value c)) ∙ ap (high_first 14) (clock-joined e) ∙ four-bits (clock_four c) 5 7 2 0 (clock-four e) ∙ nothing-laid (sub_row (Time c))
-
-value-fit : (u : SubMessage) → all_fit ((14, value_of u) ∷ []) ≡ all_fit (sub_row u)
-value-fit (Offset v) = refl
-value-fit (Time c) = clock-fit c (all_fit (sub_row (Time c))) refl
-value-fit (Slot c) = refl
-value-fit (Stations c) = refl
-
-value-laid : (u : SubMessage) → all_fit (sub_row u) ≡ true → laid ((14, value_of u) ∷ []) ≡ laid (sub_row u)
-value-laid (Offset v) e = refl
-value-laid (Time c) e = clock-laid c e
-value-laid (Slot c) e = refl
-value-laid (Stations c) e = refl
-
-front : SelfOrganised → List (ℕ × ℕ)
-front s = (2, s.sync) ∷ (3, time_out_of s.sub) ∷ []
-
-module _ (s : SelfOrganised) where
-  organised-fit : all_fit (four_row (organised_four s) 2 3 14 0) ≡ all_fit (organised_row s)
-  unfolding front
-  organised-fit =
-      nothing-fit (front s ++ ((14, value_of s.sub) ∷ [])) ∙ fit_append (front s) ((14, value_of s.sub) ∷ [])
-      ∙ ap (both (all_fit (front s))) (value-fit s.sub) ∙ sym (fit_append (front s) (sub_row s.sub))
-
-  organised-laid : all_fit (organised_row s) ≡ true → laid (four_row (organised_four s) 2 3 14 0) ≡ laid (organised_row s)
-  unfolding front
-  organised-laid h =
-      nothing-laid (front s ++ ((14, value_of s.sub) ∷ [])) ∙ laid-append (front s) ((14, value_of s.sub) ∷ [])
-      ∙ ap (laid (front s) ++◌) (value-laid s.sub (fit-both (front s) (sub_row s.sub) h).1) ∙ sym (laid-append (front s) (sub_row s.sub))
-
--- ---- the rows of a message are its fields
+-- ---- rows that say the same
 
 -- rows that fit where these fields do, and then lay the same bits
 abbrev Lay : List (ℕ × ℕ) → List (ℕ × ℕ) → Type 0
@@ -148,64 +135,110 @@ lay-both fs gs fs' gs' (a, b) (c, d) = (
   λ e. let h = fit-both fs' gs' e in laid-append fs gs ∙ ap₂ ◌++◌ (b h.0) (d h.1) ∙ sym (laid-append fs' gs'),
 )
 
-report-lays : (id : ℕ) (r : Report) (f : Four) (t : Bool) → Lay (report_fields (report_rows id r f t)) (report_row id r)
-report-lays id r f t = (nothing-fit (report_row id r), λ _. nothing-laid (report_row id r))
+lay-same : (fs : List (ℕ × ℕ)) → Lay fs fs
+lay-same fs = (refl, λ _. refl)
 
-organised-lays : (s : SelfOrganised) → Lay (four_row (organised_four s) 2 3 14 0) (organised_row s)
-organised-lays s = (organised-fit s, organised-laid s)
+lay-through : (fs gs hs : List (ℕ × ℕ)) → Lay fs gs → Lay gs hs → Lay fs hs
+lay-through fs gs hs (a, b) (c, d) = (a ∙ c, λ e. b (c ∙ e) ∙ d e)
 
-abbrev pub Says : Message → Sheet → Type 0
-Says m (Known x) = (known m ≡ true) × Lay (fields_in x) (row_of m)
-Says m Unknown = known m ≡ false
+nothing-lays : (fs : List (ℕ × ℕ)) → Lay (fs ++ ((0, 0) ∷ [])) fs
+nothing-lays fs = (nothing-fit fs, λ _. nothing-laid fs)
+
+-- four numbers as one field
+one-lays : (f : Four) (a b c d : ℕ) → Lay ((a + b + c + d, one_of f a b c d) ∷ []) (four_row f a b c d)
+one-lays f a b c d = (one-fit f a b c d, one-laid f a b c d)
+
+-- ---- the state as one number
+
+value-lays : (u : SubMessage) → Lay ((14, value_of u) ∷ []) (sub_row u)
+value-lays (Offset v) = lay-same _
+value-lays (Time c) = lay-through _ (four_row (clock_four c) 5 7 2 0) _ (one-lays (clock_four c) 5 7 2 0) (nothing-lays (sub_row (Time c)))
+value-lays (Slot c) = lay-same _
+value-lays (Stations c) = lay-same _
+
+front : SelfOrganised → List (ℕ × ℕ)
+front s = (2, s.sync) ∷ (3, time_out_of s.sub) ∷ []
+
+organised-lays : (s : SelfOrganised) → Lay ((19, organised_value s) ∷ []) (organised_row s)
+unfolding front
+organised-lays s =
+    lay-through _ (four_row (organised_four s) 2 3 14 0) _ (one-lays (organised_four s) 2 3 14 0)
+    (lay-through _ (front s ++ ((14, value_of s.sub) ∷ [])) _ (nothing-lays (front s ++ ((14, value_of s.sub) ∷ []))) (lay-both (front s) _ (front s) _ (lay-same (front s)) (value-lays s.sub)))
+
+incremental-lays : (s : Incremental) → Lay ((19, incremental_value s) ∷ []) (incremental_row s)
+incremental-lays s = one-lays (incremental_four s) 2 13 3 1
+
+-- in message 4 the flag is one number with it
+last-lays : (b : Base) (state : ℕ) → Lay ((20, one_of (last_four b state) 1 19 0 0) ∷ []) ((1, b.raim) ∷ (19, state) ∷ [])
+last-lays b state =
+    lay-through _ (four_row (last_four b state) 1 19 0 0) _ (one-lays (last_four b state) 1 19 0 0)
+    (lay-through _ ((1, b.raim) ∷ (19, state) ∷ (0, 0) ∷ []) _ (nothing-lays ((1, b.raim) ∷ (19, state) ∷ (0, 0) ∷ [])) (nothing-lays ((1, b.raim) ∷ (19, state) ∷ [])))
+
+-- ---- the rows of a message are its fields
+
+lies : (at a b c d : ℕ) → T (leb 1 a) → T (leb 1 b) → T (leb 1 c) → T (leb 1 d) → T (leb a 32) → T (leb b 32) → T (leb c 32) → T (leb d 32)
+    → T (ltb (0 + a + b + c + d) 64) → T (leb (at % 8 + (0 + a + b + c + d)) 64) → Lies at (widths a b c d)
+lies at a b c d e f g h i j k l few window =
+    record {
+      readable =
+          record { some-a = lit≤ e; some-b = lit≤ f; some-c = lit≤ g; some-d = lit≤ h; few-a = lit≤ i; few-b = lit≤ j; few-c = lit≤ k; few-d = lit≤ l };
+      few = lit< few;
+      window = lit≤ window;
+    }
+
+pub report-whole : Whole report_layout
+report-whole =
+    record {
+      a = lies 0 6 2 30 4 tt tt tt tt tt tt tt tt tt tt;
+      b = lies 42 8 10 1 28 tt tt tt tt tt tt tt tt tt tt;
+      c = lies 89 27 12 9 6 tt tt tt tt tt tt tt tt tt tt;
+      d = lies 143 2 3 1 19 tt tt tt tt tt tt tt tt tt tt;
+      all = refl;
+    }
+
+pub base-whole : Whole base_layout
+base-whole =
+    record {
+      a = lies 0 6 2 30 14 tt tt tt tt tt tt tt tt tt tt;
+      b = lies 52 4 5 5 6 tt tt tt tt tt tt tt tt tt tt;
+      c = lies 72 6 1 28 27 tt tt tt tt tt tt tt tt tt tt;
+      d = lies 134 4 1 9 20 tt tt tt tt tt tt tt tt tt tt;
+      all = refl;
+    }
+
+abbrev before_raim : Base → List (ℕ × ℕ)
+before_raim b = take 15 (base_row b)
+
+abbrev pub Says : Message → Option Sheet → Type 0
+Says m (Some x) = (known m ≡ true) × Lay (fields_of x) (row_of m)
+Says m None = known m ≡ false
 
 pub says : (m : Message) → Says m (sheet_of m)
-unfolding sheet_of head_fields state_fields
-says (One r s) = (refl, lay-both _ _ _ _ (report-lays 1 r (organised_four s) false) (organised-lays s))
-says (Two r s) = (refl, lay-both _ _ _ _ (report-lays 2 r (organised_four s) false) (organised-lays s))
-says (Three r s) = (refl, lay-both _ _ _ _ (report-lays 3 r (incremental_four s) true) (refl, λ _. refl))
-says (Station b s) = (refl, lay-both (base_fields (base_rows b (organised_four s))) _ (base_row b) _ (refl, λ _. refl) (organised-lays s))
+unfolding sheet_of
+says (One r s) = (refl, lay-both (report_row 1 r) _ (report_row 1 r) _ (lay-same _) (organised-lays s))
+says (Two r s) = (refl, lay-both (report_row 2 r) _ (report_row 2 r) _ (lay-same _) (organised-lays s))
+says (Three r s) = (refl, lay-both (report_row 3 r) _ (report_row 3 r) _ (lay-same _) (incremental-lays s))
+says (Station b s) =
+    let raim = (1, b.raim) ∷ [] in
+    (refl, lay-both (before_raim b) _ (before_raim b) _ (lay-same _) (lay-through _ (raim ++ ((19, organised_value s) ∷ [])) _ (last-lays b (organised_value s)) (lay-both raim _ raim _ (lay-same _) (organised-lays s))))
 says Other = refl
-
--- ---- the whole message: 149 bits, and the state's 19
-
-head-width : (x : Rows) → width_of (head_fields x) ≡ 149
-unfolding head_fields width_of
-head-width x = go x.base
-  where
-    go : (t : Bool) → width_of (pick t (base_fields x) (report_fields x)) ≡ 149
-    go true = refl
-    go false = refl
-
-state-width : (x : Rows) → width_of (state_fields x) ≡ 19
-unfolding state_fields width_of
-state-width x = go x.increments
-  where
-    go : (t : Bool) → width_of (pick t (four_row x.state 2 13 3 1) (four_row x.state 2 3 14 0)) ≡ 19
-    go true = refl
-    go false = refl
-
-pub whole : (l : List ℕ) {l₁ l₂ : List ℕ} (x : Rows) → ((i : ℕ) → get_or l i 0 < 256) → message_bytes ≤ length l
-    → l₁ ≡ lay_over l 0 (head_fields x) → l₂ ≡ lay_over l₁ 149 (state_fields x) → l₂ ≡ over (packed message_bytes (laid (fields_in x))) l
-whole l x bytes room e f =
-    lay-more (head_fields x) (state_fields x) l (head-width x) (omega (arith, state-width x)) e f
-    ∙ lay-whole l message_bytes (fields_in x) (all-bytes l bytes) (width-append (head_fields x) (state_fields x) ∙ omega (arith, head-width x, state-width x)) room
 
 -- ---- writing
 
-pub write-room : (m : Message) (room : ℕ) → room < message_bytes → NotWritten NoRoom ≡ write_answer m room
+pub write-room : (m : Message) (room : ℕ) → room < message_bytes → Err NoRoom ≡ write_answer m room
 unfolding write_answer
 write-room m room h = simp (lt-leb message_bytes room h)
 
 module _ (m : Message) (room : ℕ) (h : message_bytes ≤ room) where
-  pub write-unknown : known m ≡ false → NotWritten UnknownId ≡ write_answer m room
+  pub write-unknown : known m ≡ false → Err UnknownId ≡ write_answer m room
   unfolding write_answer
   write-unknown e = simp (le-leb message_bytes room h, e)
 
   module _ (k : known m ≡ true) where
-    pub write-wide : all_fit (row_of m) ≡ false → NotWritten TooWide ≡ write_answer m room
+    pub write-wide : all_fit (row_of m) ≡ false → Err TooWide ≡ write_answer m room
     unfolding write_answer
     write-wide e = simp (le-leb message_bytes room h, k, e)
 
-    pub write-good : all_fit (row_of m) ≡ true → Done ≡ write_answer m room
+    pub write-good : all_fit (row_of m) ≡ true → Ok tt ≡ write_answer m room
     unfolding write_answer
     write-good e = simp (le-leb message_bytes room h, k, e)

@@ -1,11 +1,11 @@
 -- Messages 1 to 4: where each field stands, what is read and written, and what is given back.
 -- Assumes nothing.
-use Rattle.std.specs.Prelude.{ℕ, ◌≡◌, Bool, true, false, List, [], ◌∷◌, ◌++◌, leb, eqb, length}
+use Rattle.std.specs.Prelude.{ℕ, ◌≡◌, Bool, true, false, ⊤, Result, Ok, Err, List, [], ◌∷◌, ◌++◌, leb, eqb, length}
 use Rattle.laws.specs.Tests.{pick, between, ladder}
 use Rattle.laws.specs.Lists.{over}
 use Rattle.limits.specs.Limits.{message_bytes}
+use Rattle.numbers.specs.declared.Refusal.{Refusal}
 use Rattle.numbers.specs.declared.Refusal.TheVariants.{NoRoom, MessageLength, UnknownId, TooWide}
-use Rattle.numbers.specs.Numbers.{number_of}
 use Rattle.bits.specs.Field.{field_of, packed}
 use Rattle.bits.specs.Row.{laid, all_fit}
 use Rattle.message.specs.Signs.{signed_of, unsigned_of}
@@ -14,20 +14,6 @@ use Rattle.message.specs.declared.Report.{Report}
 use Rattle.message.specs.declared.Base.{Base}
 use Rattle.message.specs.declared.Message.{Message}
 use Rattle.message.specs.declared.Message.TheVariants.{One, Two, Three, Four, Other}
-use Rattle.message.specs.declared.Received.{Received}
-use Rattle.message.specs.declared.Received.TheVariants.{Message as Got, Refused}
-use Rattle.message.specs.declared.Written.{Written}
-use Rattle.message.specs.declared.Written.TheVariants.{Done, Refused as NotWritten}
-
--- ---- the numbers given back, 0 for none
-
-abbrev pub received_number : Received → ℕ
-received_number (Got m) = 0
-received_number (Refused r) = number_of r
-
-abbrev pub written_number : Written → ℕ
-written_number Done = 0
-written_number (NotWritten r) = number_of r
 
 -- ---- where each field stands
 
@@ -84,16 +70,16 @@ organised_message l id =
 unfoldable pub message_of : List ℕ → Message
 message_of l = pick (eqb (id_in l) 3) (Three (report_of l) (incremental_of l)) (organised_message l (id_in l))
 
-unfoldable pub read_tests : List ℕ → List (Bool × Received)
+unfoldable pub read_tests : List ℕ → List (Bool × Result Message Refusal)
 read_tests l =
-    (eqb (length l) message_bytes, Refused MessageLength)
-    ∷ (between 1 4 (id_in l), Refused UnknownId)
+    (eqb (length l) message_bytes, Err MessageLength)
+    ∷ (between 1 4 (id_in l), Err UnknownId)
     ∷ []
 
 -- what `read` promises
-unfoldable pub read_answer : List ℕ → Received
+unfoldable pub read_answer : List ℕ → Result Message Refusal
 unfolding read_tests
-read_answer l = ladder (read_tests l) (Got (message_of l))
+read_answer l = ladder (read_tests l) (Ok (message_of l))
 
 -- ---- writing: widths and numbers in a row, in the order of document 01
 
@@ -126,25 +112,25 @@ known (Three r s) = true
 known (Four b s) = true
 known Other = false
 
-unfoldable pub write_tests : Message → ℕ → List (Bool × Written)
+unfoldable pub write_tests : Message → ℕ → List (Bool × Result ⊤ Refusal)
 write_tests m room =
-    (leb message_bytes room, NotWritten NoRoom)
-    ∷ (known m, NotWritten UnknownId)
-    ∷ (all_fit (row_of m), NotWritten TooWide)
+    (leb message_bytes room, Err NoRoom)
+    ∷ (known m, Err UnknownId)
+    ∷ (all_fit (row_of m), Err TooWide)
     ∷ []
 
-unfoldable pub write_answer : Message → ℕ → Written
+unfoldable pub write_answer : Message → ℕ → Result ⊤ Refusal
 unfolding write_tests
-write_answer m room = ladder (write_tests m room) Done
+write_answer m room = ladder (write_tests m room) (Ok tt)
 
 -- the 21 bytes of a message
 unfoldable pub bytes_of : Message → List ℕ
 bytes_of m = packed message_bytes (laid (row_of m))
 
-unfoldable pub write_out : Written → Message → List ℕ → List ℕ
-write_out Done m out = over (bytes_of m) out
-write_out (NotWritten r) m out = out
+unfoldable pub write_out : Result ⊤ Refusal → Message → List ℕ → List ℕ
+write_out (Ok done) m out = over (bytes_of m) out
+write_out (Err r) m out = out
 
 -- what `write` promises: one answer, and one content of the lent buffer
-abbrev pub Writes : Message → List ℕ → Written → List ℕ → Type 0
+abbrev pub Writes : Message → List ℕ → Result ⊤ Refusal → List ℕ → Type 0
 Writes m out r out' = (r ≡ write_answer m (length out)) × (out' ≡ write_out r m out)

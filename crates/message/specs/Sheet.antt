@@ -1,14 +1,15 @@
 -- The fields of a message four in a row, by which the code reads and writes them: the words for its contracts, not for what is promised.
 -- Assumes nothing.
-use Rattle.std.specs.Prelude.{ℕ, ◌+◌, ◌-◌, ◌*◌, ◌/◌, ◌%◌, ◌≡◌, Bool, true, false, List, ◌++◌, eqb, leb, length}
-use Rattle.laws.specs.Tests.{both, pick, between}
+use Rattle.std.specs.Prelude.{ℕ, ◌+◌, ◌-◌, ◌*◌, ◌/◌, ◌%◌, ◌≤◌, ◌<◌, ◌≡◌, Option, Some, None, List, ◌++◌, eqb}
+use Rattle.laws.specs.Tests.{pick}
 use Rattle.limits.specs.Limits.{message_bytes}
 use Rattle.bits.specs.Field.{field_of}
-use Rattle.bits.specs.Row.{all_fit, four_at, four_row}
-use Rattle.bits.specs.declared.reader.Four.{Four}
+use Rattle.bits.specs.Row.{Readable, four_at, four_row, one_of}
+use Rattle.bits.specs.declared.row.Four.{Four}
+use Rattle.bits.specs.declared.row.Widths.{Widths}
 use Rattle.message.specs.Signs.{unsigned_of}
 use Rattle.message.specs.State.{time_out_of}
-use Rattle.message.specs.Message.{id_in, report_of, base_of, read_answer}
+use Rattle.message.specs.Message.{report_of, base_of}
 use Rattle.message.specs.declared.Report.{Report}
 use Rattle.message.specs.declared.Base.{Base}
 use Rattle.message.specs.declared.Message.{Message}
@@ -20,29 +21,14 @@ use Rattle.message.specs.declared.state.SelfOrganised.{SelfOrganised}
 use Rattle.message.specs.declared.state.Incremental.{Incremental}
 use Rattle.message.specs.declared.state.State.{State}
 use Rattle.message.specs.declared.state.State.TheVariants.{SelfOrganised as Organised, Incremental as Increasing}
-use Rattle.message.specs.declared.Received.TheVariants.{Refused}
-use Rattle.message.specs.declared.reading.Head.{Head}
-use Rattle.message.specs.declared.reading.Head.TheVariants.{Known as Begun, Refused as NoHead}
-use Rattle.message.specs.declared.reading.Fields.{Fields}
 use Rattle.message.specs.declared.reading.ReportRead.{ReportRead}
 use Rattle.message.specs.declared.reading.BaseRead.{BaseRead}
-use Rattle.message.specs.declared.writing.Rows.{Rows}
+use Rattle.message.specs.declared.layout.Layout.{Layout}
+use Rattle.message.specs.declared.layout.Rows.{Rows}
 use Rattle.message.specs.declared.writing.Sheet.{Sheet}
-use Rattle.message.specs.declared.writing.Sheet.TheVariants.{Known, Unknown}
+use Rattle.message.specs.declared.writing.Sheet.TheVariants.{Report as OfReport, Base as OfBase}
 
 -- ---- what has been read
-
--- what `head_of` gives: the id of a message that can be read, or what reading gives
-abbrev pub Heads : List ℕ → Head → Type 0
-Heads l (Begun id) = (length l ≡ message_bytes) × (between 1 4 (id_in l) ≡ true) × (id ≡ id_in l)
-Heads l (NoHead r) = read_answer l ≡ Refused r
-
--- all fields of messages 1 to 3, and of message 4
-abbrev pub report_taken : List ℕ → Fields
-report_taken l = record { a = four_at l 0 6 2 30 4; b = four_at l 42 8 10 1 28; c = four_at l 89 27 12 9 6; d = four_at l 143 2 3 1 19 }
-
-abbrev pub base_taken : List ℕ → Fields
-base_taken l = record { a = four_at l 0 6 2 30 14; b = four_at l 52 4 5 5 6; c = four_at l 72 6 1 28 27; d = four_at l 134 4 1 9 20 }
 
 -- the state as one number
 abbrev pub state_bits : List ℕ → ℕ
@@ -94,11 +80,13 @@ StandsIn v (Increasing s) = s ≡ incremental_from v
 unfoldable pub one_or_two : ℕ → Report → SelfOrganised → Message
 one_or_two id r s = pick (eqb id 2) (Two r s) (One r s)
 
--- ---- the state, of widths 2, 3, 14 and 0
+-- ---- the state as one number, which is too wide where a part of it is
 
--- the clock in one number, which is too wide where a part of it is
-unfoldable pub clock_value : Clock → ℕ
-clock_value c = pick (both (leb c.hour 31) (both (leb c.minute 127) (leb c.unused 3))) (c.hour * 512 + c.minute * 4 + c.unused) 16384
+abbrev pub clock_four : Clock → Four
+clock_four c = record { a = c.hour; b = c.minute; c = c.unused; d = 0 }
+
+abbrev pub clock_value : Clock → ℕ
+clock_value c = one_of (clock_four c) 5 7 2 0
 
 abbrev pub value_of : SubMessage → ℕ
 value_of (Offset v) = v
@@ -109,72 +97,98 @@ value_of (Stations c) = c.number
 abbrev pub organised_four : SelfOrganised → Four
 organised_four s = record { a = s.sync; b = time_out_of s.sub; c = value_of s.sub; d = 0 }
 
--- and of widths 2, 13, 3 and 1
+abbrev pub organised_value : SelfOrganised → ℕ
+organised_value s = one_of (organised_four s) 2 3 14 0
+
 abbrev pub incremental_four : Incremental → Four
 incremental_four s = record { a = s.sync; b = s.increment; c = s.code; d = s.keep }
 
+abbrev pub incremental_value : Incremental → ℕ
+incremental_value s = one_of (incremental_four s) 2 13 3 1
+
+-- ---- the layout of a message: the widths of all its fields, four in a row
+
+abbrev pub widths : ℕ → ℕ → ℕ → ℕ → Widths
+widths a b c d = record { 0 = a; 1 = b; 2 = c; 3 = d }
+
+-- of messages 1 to 3; the last field is the state
+abbrev pub report_layout : Layout
+report_layout = record { a = widths 6 2 30 4; b = widths 8 10 1 28; c = widths 27 12 9 6; d = widths 2 3 1 19 }
+
+-- of message 4; the last field is the raim flag and the state
+abbrev pub base_layout : Layout
+base_layout = record { a = widths 6 2 30 14; b = widths 4 5 5 6; c = widths 6 1 28 27; d = widths 4 1 9 20 }
+
+-- where the fields after those of a row begin
+abbrev pub after : ℕ → Widths → ℕ
+after at w = at + w.0 + w.1 + w.2 + w.3
+
+-- a row that can be read, and written as one number, from bit at on
+pub record Lies (at : ℕ) (w : Widths) : Type 0 where
+  pub readable : Readable w
+  pub few : after 0 w < 64
+  pub window : at % 8 + after 0 w ≤ 64
+
+-- all rows can, and have the bits of a message
+pub record Whole (y : Layout) : Type 0 where
+  pub a : Lies 0 y.a
+  pub b : Lies (after 0 y.a) y.b
+  pub c : Lies (after (after 0 y.a) y.b) y.c
+  pub d : Lies (after (after (after 0 y.a) y.b) y.c) y.d
+  pub all : after (after (after (after 0 y.a) y.b) y.c) y.d ≡ 8 * message_bytes
+
 -- ---- the rows of a message
 
-abbrev pub report_rows : ℕ → Report → Four → Bool → Rows
-report_rows id r state increments =
+abbrev pub from : List ℕ → ℕ → Widths → Four
+from l at w = four_at l at w.0 w.1 w.2 w.3
+
+-- that stand in bytes
+abbrev pub rows_at : Layout → List ℕ → Rows
+rows_at y l =
+    record {
+      a = from l 0 y.a;
+      b = from l (after 0 y.a) y.b;
+      c = from l (after (after 0 y.a) y.b) y.c;
+      d = from l (after (after (after 0 y.a) y.b) y.c) y.d;
+    }
+
+abbrev pub report_rows : ℕ → Report → ℕ → Rows
+report_rows id r state =
     record {
       a = record { a = id; b = r.repeat; c = r.source; d = r.status };
       b = record { a = unsigned_of 8 r.turn; b = r.speed; c = r.accuracy; d = unsigned_of 28 r.longitude };
       c = record { a = unsigned_of 27 r.latitude; b = r.course; c = r.heading; d = r.second };
-      d = record { a = r.manoeuvre; b = r.spare; c = r.raim; d = 0 };
-      state = state;
-      base = false;
-      increments = increments;
+      d = record { a = r.manoeuvre; b = r.spare; c = r.raim; d = state };
     }
 
-abbrev pub base_rows : Base → Four → Rows
+-- the raim flag, and the state after it
+abbrev pub last_four : Base → ℕ → Four
+last_four b state = record { a = b.raim; b = state; c = 0; d = 0 }
+
+abbrev pub base_rows : Base → ℕ → Rows
 base_rows b state =
     record {
       a = record { a = 4; b = b.repeat; c = b.source; d = b.year };
       b = record { a = b.month; b = b.day; c = b.hour; d = b.minute };
       c = record { a = b.second; b = b.accuracy; c = unsigned_of 28 b.longitude; d = unsigned_of 27 b.latitude };
-      d = record { a = b.fix; b = b.control; c = b.spare; d = b.raim };
-      state = state;
-      base = true;
-      increments = false;
+      d = record { a = b.fix; b = b.control; c = b.spare; d = one_of (last_four b state) 1 19 0 0 };
     }
 
-unfoldable pub sheet_of : Message → Sheet
-sheet_of (One r s) = Known (report_rows 1 r (organised_four s) false)
-sheet_of (Two r s) = Known (report_rows 2 r (organised_four s) false)
-sheet_of (Three r s) = Known (report_rows 3 r (incremental_four s) true)
-sheet_of (Station b s) = Known (base_rows b (organised_four s))
-sheet_of Other = Unknown
+unfoldable pub sheet_of : Message → Option Sheet
+sheet_of (One r s) = Some (OfReport (report_rows 1 r (organised_value s)))
+sheet_of (Two r s) = Some (OfReport (report_rows 2 r (organised_value s)))
+sheet_of (Three r s) = Some (OfReport (report_rows 3 r (incremental_value s)))
+sheet_of (Station b s) = Some (OfBase (base_rows b (organised_value s)))
+sheet_of Other = None
 
--- ---- their widths
+-- ---- the rows with their widths
 
--- four rows, as they are tested and laid
-abbrev pub Parts : Type 0
-Parts = List (ℕ × ℕ) × List (ℕ × ℕ) × List (ℕ × ℕ) × List (ℕ × ℕ)
+abbrev pub row : Four → Widths → List (ℕ × ℕ)
+row f w = four_row f w.0 w.1 w.2 w.3
 
-abbrev pub in_one : Parts → List (ℕ × ℕ)
-in_one p = p.0 ++ p.1 ++ p.2 ++ p.3
+abbrev pub fields_in : Layout → Rows → List (ℕ × ℕ)
+fields_in y x = row x.a y.a ++ row x.b y.b ++ row x.c y.c ++ row x.d y.d
 
-abbrev pub EachFits : Parts → Type 0
-EachFits p = (all_fit p.0 ≡ true) × (all_fit p.1 ≡ true) × (all_fit p.2 ≡ true) × (all_fit p.3 ≡ true)
-
-abbrev pub report_parts : Rows → Parts
-report_parts x = (four_row x.a 6 2 30 4, four_row x.b 8 10 1 28, four_row x.c 27 12 9 6, four_row x.d 2 3 1 0)
-
-abbrev pub base_parts : Rows → Parts
-base_parts x = (four_row x.a 6 2 30 14, four_row x.b 4 5 5 6, four_row x.c 6 1 28 27, four_row x.d 4 1 9 1)
-
-abbrev pub report_fields : Rows → List (ℕ × ℕ)
-report_fields x = in_one (report_parts x)
-
-abbrev pub base_fields : Rows → List (ℕ × ℕ)
-base_fields x = in_one (base_parts x)
-
-unfoldable pub head_fields : Rows → List (ℕ × ℕ)
-head_fields x = pick x.base (base_fields x) (report_fields x)
-
-unfoldable pub state_fields : Rows → List (ℕ × ℕ)
-state_fields x = pick x.increments (four_row x.state 2 13 3 1) (four_row x.state 2 3 14 0)
-
-abbrev pub fields_in : Rows → List (ℕ × ℕ)
-fields_in x = head_fields x ++ state_fields x
+abbrev pub fields_of : Sheet → List (ℕ × ℕ)
+fields_of (OfReport x) = fields_in report_layout x
+fields_of (OfBase x) = fields_in base_layout x

@@ -3,6 +3,7 @@
 // meets the contract. No message can be made whose state does not belong to its id, or whose sub-message not to its time-out.
 #![tactic(auto)]
 
+pub mod layout;
 pub mod reading;
 pub mod signs;
 pub mod state;
@@ -13,9 +14,9 @@ ghost use Rattle.message.specs.Message.{read_answer, Writes};
 
 use limits::MESSAGE;
 use numbers::Refusal;
-use reading::{Head, head_of, message_in};
+use reading::{head_of, message_in};
 use state::{Incremental, SelfOrganised};
-use writing::{Sheet, fits, put, sheet_of};
+use writing::sheet_of;
 
 // The position report of messages 1, 2 and 3.
 #[derive(Clone, Copy)]
@@ -62,47 +63,28 @@ pub enum Message {
     Two(Report, SelfOrganised),
     Three(Report, Incremental),
     Four(Base, SelfOrganised),
-    // of an id that is not 1 to 4: refused with 18, never read
+    // of an id that is not 1 to 4. No bytes give it; it stands so that `write` can be asked for it, and refuse it with 18
     Other,
 }
 
-#[derive(Clone, Copy)]
-pub enum Received {
-    Message(Message),
-    Refused(Refusal),
-}
-
-#[derive(Clone, Copy)]
-pub enum Written {
-    Done,
-    Refused(Refusal),
-}
-
 // The message in 21 bytes: 17, 18.
-pub fn read(bytes: &[u8]) -> Received
+pub fn read(bytes: &[u8]) -> Result<Message, Refusal>
     ensures { result ≡ read_answer bytes.now }
 {
-    let first = head_of(bytes);
-    match first {
-        Head::Known(h) => Received::Message(message_in(bytes, h)),
-        Head::Refused(r) => Received::Refused(r),
-    }
+    Ok(message_in(head_of(bytes)?))
 }
 
 // The 21 bytes of a message in the first places of out: 12, 18, 19.
-pub fn write(message: Message, out: &mut [u8]) -> Written
+pub fn write(message: Message, out: &mut [u8]) -> Result<(), Refusal>
     ensures { Writes message out.old result out.new }
 {
     if out.len() < MESSAGE {
-        return Written::Refused(Refusal::NoRoom);
+        return Err(Refusal::NoRoom);
     }
-    let sheet = sheet_of(message);
-    let Sheet::Known(x) = sheet else {
-        return Written::Refused(Refusal::UnknownId);
-    };
-    if !fits(x) {
-        return Written::Refused(Refusal::TooWide);
+    let sheet = sheet_of(message).ok_or(Refusal::UnknownId)?;
+    if !sheet.fits() {
+        return Err(Refusal::TooWide);
     }
-    put(x, out);
-    Written::Done
+    sheet.put(out);
+    Ok(())
 }

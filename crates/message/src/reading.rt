@@ -1,35 +1,20 @@
-// A message from its 21 bytes: its id, its fields by one reader that goes through all of them, and the whole. Promise: it is `message_of` the
-// bytes (specs/Message.antt).
-ghost use Rattle.std.specs.Prelude.{◌≡◌, length};
+// A message from its 21 bytes: its id, its fields as they are laid out, and the whole. Promise: it is `message_of` the bytes
+// (specs/Message.antt).
+ghost use Rattle.std.specs.Prelude.{◌≡◌, true, Err, MatchResult, length};
+ghost use Rattle.laws.specs.Tests.{between};
 ghost use Rattle.limits.specs.Limits.{message_bytes};
 ghost use Rattle.message.specs.State.{organised_of};
-ghost use Rattle.message.specs.Message.{id_in, base_of, message_of};
-ghost use Rattle.message.specs.Sheet.{Heads, report_taken, base_taken, report_read, base_read, organised_from, StandsIn, one_or_two};
+ghost use Rattle.message.specs.Message.{id_in, base_of, message_of, read_answer};
+ghost use Rattle.message.specs.Sheet.{report_read, base_read, organised_from, StandsIn, one_or_two};
 ghost use Rattle.message.specs.declared.Message.TheVariants.{Four as Station};
 
+use crate::layout::{BASE, FLAG_AND_STATE, REPORT};
 use crate::signs::signed;
 use crate::state::{State, organised_in, organised_of, state_in};
 use crate::{Base, Message, Report};
 use bits::field::field;
-use bits::reader::{Four, start, take};
 use limits::MESSAGE;
 use numbers::Refusal;
-
-// The id of a message, by which its fields are known; or why there is no message.
-#[derive(Clone, Copy)]
-pub enum Head {
-    Known(u32),
-    Refused(Refusal),
-}
-
-// All fields of a message as they stand. The last one is the state as one number, in message 4 with the raim flag before it.
-#[derive(Clone, Copy)]
-pub struct Fields {
-    pub a: Four,
-    pub b: Four,
-    pub c: Four,
-    pub d: Four,
-}
 
 // A report, and its state as one number of 19 bits.
 #[derive(Clone, Copy)]
@@ -44,138 +29,96 @@ pub struct BaseRead {
     pub state: u32,
 }
 
-fn id_in(bytes: &[u8]) -> u32
-    requires { length bytes.now ≡ message_bytes }
+// The 21 bytes of a message, and the id that they begin with: as the number that stands there, since the definitions and the list for C speak
+// of it. That the array has its length is said again: of an array that a field refers to, a proof does not know it.
+#[derive(Clone, Copy)]
+pub struct Head<'a> {
+    pub bytes: &'a [u8; MESSAGE],
+    pub id: u32,
+    pub ghost whole: { length bytes.now ≡ message_bytes },
+    pub ghost told: { id ≡ id_in bytes.now },
+}
+
+fn id_in(bytes: &[u8; MESSAGE]) -> u32
     ensures { result ≡ id_in bytes.now }
 {
     field(bytes, 0, 6)
 }
 
-// What a message begins with: 17, 18.
-pub fn head_of(bytes: &[u8]) -> Head
-    ensures { Heads bytes.now result }
+// The head of a message that can be read, of just these bytes: 17, 18.
+pub fn head_of(bytes: &[u8]) -> Result<Head<'_>, Refusal>
+    ensures { MatchResult result (λ head. (head.bytes.now ≡ bytes.now) × (between 1 4 head.id ≡ true)) (λ r. read_answer bytes.now ≡ Err r) }
 {
-    if bytes.len() != MESSAGE {
-        return Head::Refused(Refusal::MessageLength);
+    let Some(whole) = bytes.as_array::<MESSAGE>() else {
+        return Err(Refusal::MessageLength);
+    };
+    let id = id_in(whole);
+    match id {
+        1..=4 => Ok(Head { bytes: whole, id }),
+        _ => Err(Refusal::UnknownId),
     }
-    let id = id_in(bytes);
-    if id < 1 {
-        return Head::Refused(Refusal::UnknownId);
-    }
-    if id > 4 {
-        return Head::Refused(Refusal::UnknownId);
-    }
-    Head::Known(id)
 }
 
-// The fields of messages 1 to 3.
-fn report_fields(bytes: &[u8]) -> Fields
-    requires { length bytes.now ≡ message_bytes }
-    ensures { result ≡ report_taken bytes.now }
-{
-    let mut r = start(bytes);
-    r = take(r, 6, 2, 30, 4);
-    let a = r.four;
-    r = take(r, 8, 10, 1, 28);
-    let b = r.four;
-    r = take(r, 27, 12, 9, 6);
-    let c = r.four;
-    r = take(r, 2, 3, 1, 19);
-    let d = r.four;
-    Fields { a, b, c, d }
-}
-
-// The fields of message 4.
-fn base_fields(bytes: &[u8]) -> Fields
-    requires { length bytes.now ≡ message_bytes }
-    ensures { result ≡ base_taken bytes.now }
-{
-    let mut r = start(bytes);
-    r = take(r, 6, 2, 30, 14);
-    let a = r.four;
-    r = take(r, 4, 5, 5, 6);
-    let b = r.four;
-    r = take(r, 6, 1, 28, 27);
-    let c = r.four;
-    r = take(r, 4, 1, 9, 20);
-    let d = r.four;
-    Fields { a, b, c, d }
-}
-
-pub fn report_in(bytes: &[u8]) -> ReportRead
-    requires { length bytes.now ≡ message_bytes }
+pub fn report_in(bytes: &[u8; MESSAGE]) -> ReportRead
     ensures { result ≡ report_read bytes.now }
 {
-    let f = report_fields(bytes);
-    let a = f.a;
-    let b = f.b;
-    let c = f.c;
-    let d = f.d;
-    let turn = signed(b.a, 8);
-    let longitude = signed(b.d, 28);
-    let latitude = signed(c.a, 27);
+    let x = REPORT.read(bytes);
     let report = Report {
-        repeat: a.b,
-        source: a.c,
-        status: a.d,
-        turn,
-        speed: b.b,
-        accuracy: b.c,
-        longitude,
-        latitude,
-        course: c.b,
-        heading: c.c,
-        second: c.d,
-        manoeuvre: d.a,
-        spare: d.b,
-        raim: d.c,
+        repeat: x.a.b,
+        source: x.a.c,
+        status: x.a.d,
+        turn: signed(x.b.a, 8),
+        speed: x.b.b,
+        accuracy: x.b.c,
+        longitude: signed(x.b.d, 28),
+        latitude: signed(x.c.a, 27),
+        course: x.c.b,
+        heading: x.c.c,
+        second: x.c.d,
+        manoeuvre: x.d.a,
+        spare: x.d.b,
+        raim: x.d.c,
     };
-    ReportRead { report, state: d.d }
+    ReportRead {
+        report,
+        state: x.d.d,
+    }
 }
 
-pub fn base_in(bytes: &[u8]) -> BaseRead
-    requires { length bytes.now ≡ message_bytes }
+pub fn base_in(bytes: &[u8; MESSAGE]) -> BaseRead
     ensures { result ≡ base_read bytes.now }
 {
-    let f = base_fields(bytes);
-    let a = f.a;
-    let b = f.b;
-    let c = f.c;
-    let d = f.d;
-    let longitude = signed(c.c, 28);
-    let latitude = signed(c.d, 27);
+    let x = BASE.read(bytes);
+    let last = FLAG_AND_STATE.split(x.d.d);
     let base = Base {
-        repeat: a.b,
-        source: a.c,
-        year: a.d,
-        month: b.a,
-        day: b.b,
-        hour: b.c,
-        minute: b.d,
-        second: c.a,
-        accuracy: c.b,
-        longitude,
-        latitude,
-        fix: d.a,
-        control: d.b,
-        spare: d.c,
-        // it stands before the 19 bits of the state
-        raim: d.d / 524288,
+        repeat: x.a.b,
+        source: x.a.c,
+        year: x.a.d,
+        month: x.b.a,
+        day: x.b.b,
+        hour: x.b.c,
+        minute: x.b.d,
+        second: x.c.a,
+        accuracy: x.c.b,
+        longitude: signed(x.c.c, 28),
+        latitude: signed(x.c.d, 27),
+        fix: x.d.a,
+        control: x.d.b,
+        spare: x.d.c,
+        raim: last.a,
     };
     BaseRead {
         base,
-        state: d.d % 524288,
+        state: last.b,
     }
 }
 
 // Message 4.
-fn base_message(bytes: &[u8]) -> Message
-    requires { length bytes.now ≡ message_bytes }
+fn base_message(bytes: &[u8; MESSAGE]) -> Message
     ensures { result ≡ Station (base_of bytes.now) (organised_of bytes.now) }
 {
     let x = base_in(bytes);
-    let base = x.base;
-    Message::Four(base, organised_in(x.state))
+    Message::Four(x.base, organised_in(x.state))
 }
 
 // Message 1 or 2, whose state is v.
@@ -191,18 +134,16 @@ fn organised(id: u32, report: Report, state: State, v: u32) -> Message
 }
 
 // The message, by its id. Message 3 alone carries the incremental state.
-pub fn message_in(bytes: &[u8], id: u32) -> Message
-    requires { (length bytes.now ≡ message_bytes) × (id ≡ id_in bytes.now) }
-    ensures { result ≡ message_of bytes.now }
+pub fn message_in(head: Head) -> Message
+    ensures { result ≡ message_of head.entry.bytes.now }
 {
-    if id == 4 {
-        return base_message(bytes);
+    if head.id == 4 {
+        return base_message(head.bytes);
     }
-    let x = report_in(bytes);
-    let report = x.report;
-    let state = state_in(id, x.state);
+    let x = report_in(head.bytes);
+    let state = state_in(head.id, x.state);
     let State::Incremental(i) = state else {
-        return organised(id, report, state, x.state);
+        return organised(head.id, x.report, state, x.state);
     };
-    Message::Three(report, i)
+    Message::Three(x.report, i)
 }

@@ -1,4 +1,5 @@
-// Two's complement. Promise: the number that so many bits mean, and the bits of a number, as specs/Signs.antt says.
+// Two's complement. Promise: the number that so many bits mean, and the bits of a number, as specs/Signs.antt says. By hand: the library's casts are for whole
+// types, and a field has 8, 27 or 28 bits.
 ghost use Rattle.std.specs.Prelude.{◌≡◌, ◌^◌, ◌≤◌, ◌<◌};
 ghost use Rattle.message.specs.Signs.{signed_of, unsigned_of};
 
@@ -15,7 +16,7 @@ pub fn signed(v: u32, width: u32) -> i32
     -1 - (below as i32)
 }
 
-// The bits of a number, so many; where it has none, a number that is too wide.
+// The bits of a number, so many; where it has none, a number that is too wide, which the one test of all widths finds.
 pub fn unsigned(x: i32, width: u32) -> u32
     requires { (1 ≤ width) × (width < 32) }
     ensures { result ≡ unsigned_of width x }

@@ -1,9 +1,17 @@
 // The communication state, 19 bits at the end of a message, taken apart. Promise: it is read and written as specs/State.antt says.
 ghost use Rattle.std.specs.Prelude.{◌≡◌, ◌<◌};
 ghost use Rattle.message.specs.State.{time_out_of};
-ghost use Rattle.message.specs.Sheet.{clock_from, sub_from, organised_parts, organised_from, incremental_from, state_from, StandsIn, clock_value, value_of, organised_four, incremental_four};
+ghost use Rattle.message.specs.Sheet.{clock_from, sub_from, organised_parts, organised_from, incremental_from, state_from, StandsIn, clock_value, value_of, organised_value, incremental_value};
 
-use bits::reader::Four;
+use bits::row::{Four, Widths};
+
+// The widths of a state: sync, time-out and 14 bits, or sync, increment, code and keep; and of the clock in those 14 bits: hour, minute and
+// two that are unused.
+const ORGANISED: Widths = Widths(2, 3, 14, 0);
+
+const INCREMENTAL: Widths = Widths(2, 13, 3, 1);
+
+const CLOCK: Widths = Widths(5, 7, 2, 0);
 
 #[derive(Clone, Copy)]
 pub struct Clock {
@@ -54,14 +62,16 @@ pub enum State {
 pub fn clock_in(v: u32) -> Clock
     ensures { result ≡ clock_from v }
 {
+    let f = CLOCK.split(v);
     Clock {
-        hour: v / 512,
-        minute: v / 4 % 128,
-        unused: v % 4,
+        hour: f.a,
+        minute: f.b,
+        unused: f.c,
     }
 }
 
-// What the last 14 bits, v, say where the time-out is t.
+// What the last 14 bits, v, say where the time-out is t. A list of numbers (crate listing) and a report (reporting) choose by the time-out too, but have their
+// numbers from elsewhere, and only the one that is wanted.
 fn sub_in(t: u32, v: u32) -> SubMessage
     requires { t < 8 }
     ensures { result ≡ sub_from t v }
@@ -88,12 +98,7 @@ fn sub_in(t: u32, v: u32) -> SubMessage
 pub fn organised_parts(v: u32) -> Four
     ensures { result ≡ organised_parts v }
 {
-    Four {
-        a: v / 131072,
-        b: v / 16384 % 8,
-        c: v % 16384,
-        d: 0,
-    }
+    ORGANISED.split(v)
 }
 
 pub fn organised_in(v: u32) -> SelfOrganised
@@ -107,11 +112,12 @@ pub fn organised_in(v: u32) -> SelfOrganised
 fn incremental_in(v: u32) -> Incremental
     ensures { result ≡ incremental_from v }
 {
+    let f = INCREMENTAL.split(v);
     Incremental {
-        sync: v / 131072,
-        increment: v / 16 % 8192,
-        code: v / 2 % 8,
-        keep: v % 2,
+        sync: f.a,
+        increment: f.b,
+        code: f.c,
+        keep: f.d,
     }
 }
 
@@ -152,16 +158,13 @@ pub fn time_out(sub: SubMessage) -> u32
 fn clock_value(c: Clock) -> u32
     ensures { result ≡ clock_value c }
 {
-    if c.hour > 31 {
-        return 16384;
-    }
-    if c.minute > 127 {
-        return 16384;
-    }
-    if c.unused > 3 {
-        return 16384;
-    }
-    c.hour * 512 + c.minute * 4 + c.unused
+    let four = Four {
+        a: c.hour,
+        b: c.minute,
+        c: c.unused,
+        d: 0,
+    };
+    four.one(CLOCK)
 }
 
 fn value(sub: SubMessage) -> u32
@@ -175,27 +178,27 @@ fn value(sub: SubMessage) -> u32
     }
 }
 
-// Sync, time-out and 14 bits, for widths 2, 3 and 14.
-pub fn organised_four(s: SelfOrganised) -> Four
-    ensures { result ≡ organised_four s }
+// The state as one number of 19 bits; too wide where a part of it is.
+pub fn organised_value(s: SelfOrganised) -> u32
+    ensures { result ≡ organised_value s }
 {
-    let sub = s.sub;
-    Four {
+    let four = Four {
         a: s.sync,
-        b: time_out(sub),
-        c: value(sub),
+        b: time_out(s.sub),
+        c: value(s.sub),
         d: 0,
-    }
+    };
+    four.one(ORGANISED)
 }
 
-// Sync, increment, code and keep, for widths 2, 13, 3 and 1.
-pub fn incremental_four(s: Incremental) -> Four
-    ensures { result ≡ incremental_four s }
+pub fn incremental_value(s: Incremental) -> u32
+    ensures { result ≡ incremental_value s }
 {
-    Four {
+    let four = Four {
         a: s.sync,
         b: s.increment,
         c: s.code,
         d: s.keep,
-    }
+    };
+    four.one(INCREMENTAL)
 }

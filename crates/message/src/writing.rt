@@ -1,40 +1,49 @@
-// The 21 bytes of a message. Promise: they are `bytes_of` it (specs/Message.antt). The fields are first put four in a row, then tested, then
-// written.
+// The fields of a message, as they are written. Promise: they are `sheet_of` it (specs/Sheet.antt), and are tested and written as its `fields_of`.
 ghost use Rattle.std.specs.Prelude.{◌≡◌, true, ◌≤◌, length};
 ghost use Rattle.laws.specs.Lists.{over};
-ghost use Rattle.laws.specs.Tests.{both};
 ghost use Rattle.limits.specs.Limits.{message_bytes};
 ghost use Rattle.bits.specs.Field.{packed};
-ghost use Rattle.bits.specs.Row.{laid, all_fit, lay_over};
-ghost use Rattle.message.specs.Sheet.{report_rows, base_rows, sheet_of, report_parts, base_parts, report_fields, base_fields, EachFits, head_fields, state_fields, fields_in};
+ghost use Rattle.bits.specs.Row.{laid, all_fit};
+ghost use Rattle.message.specs.Sheet.{fields_of, report_rows, base_rows, sheet_of};
 
+use crate::layout::{BASE, FLAG_AND_STATE, REPORT, Rows};
 use crate::signs::unsigned;
-use crate::state::{incremental_four, organised_four};
+use crate::state::{incremental_value, organised_value};
 use crate::{Base, Message, Report};
-use bits::reader::Four;
-use bits::row::{fit_four, put_four};
+use bits::row::Four;
 
-// All fields of a message. What their widths are goes by whether it is the base station's, and whether its state is incremental.
-#[derive(Clone, Copy)]
-pub struct Rows {
-    pub a: Four,
-    pub b: Four,
-    pub c: Four,
-    pub d: Four,
-    pub state: Four,
-    pub base: bool,
-    pub increments: bool,
-}
-
+// All fields of a message, in the rows of one layout or the other.
 #[derive(Clone, Copy)]
 pub enum Sheet {
-    Known(Rows),
-    // of an id that is not 1 to 4
-    Unknown,
+    Report(Rows),
+    Base(Rows),
 }
 
-fn report_rows(id: u32, r: Report, state: Four, increments: bool) -> Rows
-    ensures { result ≡ report_rows id r state increments }
+impl Sheet {
+    // Has every field its width?
+    pub fn fits(self) -> bool
+        ensures { result ≡ all_fit (fields_of self) }
+    {
+        match self {
+            Sheet::Report(x) => REPORT.fits(x),
+            Sheet::Base(x) => BASE.fits(x),
+        }
+    }
+
+    // Writes the rows into the first 21 bytes.
+    pub fn put(self, out: &mut [u8])
+        requires { (message_bytes ≤ length out.old) × (all_fit (fields_of self) ≡ true) }
+        ensures { out.new ≡ over (packed message_bytes (laid (fields_of self))) out.old }
+    {
+        match self {
+            Sheet::Report(x) => REPORT.put(x, out),
+            Sheet::Base(x) => BASE.put(x, out),
+        }
+    }
+}
+
+fn report_rows(id: u32, r: Report, state: u32) -> Rows
+    ensures { result ≡ report_rows id r state }
 {
     let turn = unsigned(r.turn, 8);
     let longitude = unsigned(r.longitude, 28);
@@ -62,19 +71,22 @@ fn report_rows(id: u32, r: Report, state: Four, increments: bool) -> Rows
             a: r.manoeuvre,
             b: r.spare,
             c: r.raim,
-            d: 0,
+            d: state,
         },
-        state,
-        base: false,
-        increments,
     }
 }
 
-fn base_rows(b: Base, state: Four) -> Rows
+fn base_rows(b: Base, state: u32) -> Rows
     ensures { result ≡ base_rows b state }
 {
     let longitude = unsigned(b.longitude, 28);
     let latitude = unsigned(b.latitude, 27);
+    let last = Four {
+        a: b.raim,
+        b: state,
+        c: 0,
+        d: 0,
+    };
     Rows {
         a: Four {
             a: 4,
@@ -98,144 +110,20 @@ fn base_rows(b: Base, state: Four) -> Rows
             a: b.fix,
             b: b.control,
             c: b.spare,
-            d: b.raim,
+            d: last.one(FLAG_AND_STATE),
         },
-        state,
-        base: true,
-        increments: false,
     }
 }
 
-pub fn sheet_of(message: Message) -> Sheet
+// None where the id is not 1 to 4.
+pub fn sheet_of(message: Message) -> Option<Sheet>
     ensures { result ≡ sheet_of message }
 {
     match message {
-        Message::One(r, s) => Sheet::Known(report_rows(1, r, organised_four(s), false)),
-        Message::Two(r, s) => Sheet::Known(report_rows(2, r, organised_four(s), false)),
-        Message::Three(r, s) => Sheet::Known(report_rows(3, r, incremental_four(s), true)),
-        Message::Four(b, s) => Sheet::Known(base_rows(b, organised_four(s))),
-        Message::Other => Sheet::Unknown,
+        Message::One(r, s) => Some(Sheet::Report(report_rows(1, r, organised_value(s)))),
+        Message::Two(r, s) => Some(Sheet::Report(report_rows(2, r, organised_value(s)))),
+        Message::Three(r, s) => Some(Sheet::Report(report_rows(3, r, incremental_value(s)))),
+        Message::Four(b, s) => Some(Sheet::Base(base_rows(b, organised_value(s)))),
+        Message::Other => None,
     }
-}
-
-// Both, with no way out between them: rows that fit, which are nearly all, are tested whole anyway.
-fn both_fit(a: bool, b: bool) -> bool
-    ensures { result ≡ both a b }
-{
-    if a {
-        return b;
-    }
-    false
-}
-
-fn report_fits(x: Rows) -> bool
-    ensures { result ≡ all_fit (report_fields x) }
-{
-    let a = x.a;
-    let b = x.b;
-    let c = x.c;
-    let d = x.d;
-    both_fit(
-        both_fit(fit_four(a, 6, 2, 30, 4), fit_four(b, 8, 10, 1, 28)),
-        both_fit(fit_four(c, 27, 12, 9, 6), fit_four(d, 2, 3, 1, 0)),
-    )
-}
-
-fn base_fits(x: Rows) -> bool
-    ensures { result ≡ all_fit (base_fields x) }
-{
-    let a = x.a;
-    let b = x.b;
-    let c = x.c;
-    let d = x.d;
-    both_fit(
-        both_fit(fit_four(a, 6, 2, 30, 14), fit_four(b, 4, 5, 5, 6)),
-        both_fit(fit_four(c, 6, 1, 28, 27), fit_four(d, 4, 1, 9, 1)),
-    )
-}
-
-fn head_fits(x: Rows) -> bool
-    ensures { result ≡ all_fit (head_fields x) }
-{
-    if x.base {
-        return base_fits(x);
-    }
-    report_fits(x)
-}
-
-fn state_fits(x: Rows) -> bool
-    ensures { result ≡ all_fit (state_fields x) }
-{
-    let s = x.state;
-    if x.increments {
-        return fit_four(s, 2, 13, 3, 1);
-    }
-    fit_four(s, 2, 3, 14, 0)
-}
-
-// Has every field its width?
-pub fn fits(x: Rows) -> bool
-    ensures { result ≡ all_fit (fields_in x) }
-{
-    both_fit(head_fits(x), state_fits(x))
-}
-
-fn put_report(x: Rows, out: &mut [u8])
-    requires { (message_bytes ≤ length out.old) × EachFits (report_parts x) }
-    ensures { out.new ≡ lay_over out.old 0 (report_fields x) }
-{
-    let a = x.a;
-    let b = x.b;
-    let c = x.c;
-    let d = x.d;
-    put_four(out, 0, a, 6, 2, 30, 4);
-    put_four(out, 42, b, 8, 10, 1, 28);
-    put_four(out, 89, c, 27, 12, 9, 6);
-    put_four(out, 143, d, 2, 3, 1, 0);
-}
-
-fn put_base(x: Rows, out: &mut [u8])
-    requires { (message_bytes ≤ length out.old) × EachFits (base_parts x) }
-    ensures { out.new ≡ lay_over out.old 0 (base_fields x) }
-{
-    let a = x.a;
-    let b = x.b;
-    let c = x.c;
-    let d = x.d;
-    put_four(out, 0, a, 6, 2, 30, 14);
-    put_four(out, 52, b, 4, 5, 5, 6);
-    put_four(out, 72, c, 6, 1, 28, 27);
-    put_four(out, 134, d, 4, 1, 9, 1);
-}
-
-fn put_head(x: Rows, out: &mut [u8])
-    requires { (message_bytes ≤ length out.old) × (all_fit (head_fields x) ≡ true) }
-    ensures { out.new ≡ lay_over out.old 0 (head_fields x) }
-{
-    if x.base {
-        put_base(x, out);
-        return;
-    }
-    put_report(x, out);
-}
-
-fn put_state(x: Rows, out: &mut [u8])
-    requires { (message_bytes ≤ length out.old) × (all_fit (state_fields x) ≡ true) }
-    ensures { out.new ≡ lay_over out.old 149 (state_fields x) }
-{
-    let s = x.state;
-    if x.increments {
-        put_four(out, 149, s, 2, 13, 3, 1);
-        return;
-    }
-    put_four(out, 149, s, 2, 3, 14, 0);
-}
-
-// Writes the rows into the first 21 bytes.
-pub fn put(x: Rows, out: &mut [u8])
-    requires { (message_bytes ≤ length out.old) × (all_fit (fields_in x) ≡ true) }
-    ensures { out.new ≡ over (packed message_bytes (laid (fields_in x))) out.old }
-{
-    put_head(x, out);
-    put_state(x, out);
 }

@@ -1,6 +1,6 @@
--- The paper's number for each refusal. No call gives back another, and none of them is 0, which stands for "not refused".
+-- The paper's number for each refusal, and for each answer. No call gives back another, and none of them is 0, which stands for "not refused".
 -- Assumes nothing.
-use Rattle.std.specs.Prelude.{ℕ}
+use Rattle.std.specs.Prelude.{ℕ, Result, Ok, Err}
 use Rattle.numbers.specs.declared.Refusal.{Refusal}
 use Rattle.numbers.specs.declared.Refusal.TheVariants.{NotBits, BadLength, NoRoom, NoFlag, BadStuffing, NotWhole, BadCheck, MessageLength, UnknownId, TooWide, OtherLength, BadSource, Repeated, NoRecord, OutOfRange, NoPlan, WindowTaken, NoCandidate, DrawBack, BeyondBook, NotOwn, CutRecord, UnknownRecord}
 
@@ -28,3 +28,8 @@ number_of BeyondBook = 35
 number_of NotOwn = 36
 number_of CutRecord = 40
 number_of UnknownRecord = 41
+
+-- the number that an answer is given back as
+abbrev pub number_given : {A : Type 0} → Result A Refusal → ℕ
+number_given (Ok x) = 0
+number_given (Err r) = number_of r

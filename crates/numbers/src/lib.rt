@@ -5,7 +5,7 @@
 ghost use Rattle.std.specs.Prelude.{◌≡◌};
 ghost use Rattle.numbers.specs.Numbers.{number_of};
 
-#[derive(Clone, Copy)]
+#[derive(Clone, Copy, Debug, PartialEq, Eq)]
 pub enum Refusal {
     // a bit byte is neither 0 nor 1
     NotBits,
@@ -55,32 +55,34 @@ pub enum Refusal {
     UnknownRecord,
 }
 
-pub fn number(refusal: Refusal) -> u32
-    ensures { result ≡ number_of refusal }
-{
-    match refusal {
-        Refusal::NotBits => 10,
-        Refusal::BadLength => 11,
-        Refusal::NoRoom => 12,
-        Refusal::NoFlag => 13,
-        Refusal::BadStuffing => 14,
-        Refusal::NotWhole => 15,
-        Refusal::BadCheck => 16,
-        Refusal::MessageLength => 17,
-        Refusal::UnknownId => 18,
-        Refusal::TooWide => 19,
-        Refusal::OtherLength => 20,
-        Refusal::BadSource => 21,
-        Refusal::Repeated => 22,
-        Refusal::NoRecord => 23,
-        Refusal::OutOfRange => 30,
-        Refusal::NoPlan => 31,
-        Refusal::WindowTaken => 32,
-        Refusal::NoCandidate => 33,
-        Refusal::DrawBack => 34,
-        Refusal::BeyondBook => 35,
-        Refusal::NotOwn => 36,
-        Refusal::CutRecord => 40,
-        Refusal::UnknownRecord => 41,
+impl From<Refusal> for u32 {
+    ghost from_gives = { λ r n. n ≡ number_of r };
+
+    fn from(refusal: Refusal) -> u32 {
+        match refusal {
+            Refusal::NotBits => 10,
+            Refusal::BadLength => 11,
+            Refusal::NoRoom => 12,
+            Refusal::NoFlag => 13,
+            Refusal::BadStuffing => 14,
+            Refusal::NotWhole => 15,
+            Refusal::BadCheck => 16,
+            Refusal::MessageLength => 17,
+            Refusal::UnknownId => 18,
+            Refusal::TooWide => 19,
+            Refusal::OtherLength => 20,
+            Refusal::BadSource => 21,
+            Refusal::Repeated => 22,
+            Refusal::NoRecord => 23,
+            Refusal::OutOfRange => 30,
+            Refusal::NoPlan => 31,
+            Refusal::WindowTaken => 32,
+            Refusal::NoCandidate => 33,
+            Refusal::DrawBack => 34,
+            Refusal::BeyondBook => 35,
+            Refusal::NotOwn => 36,
+            Refusal::CutRecord => 40,
+            Refusal::UnknownRecord => 41,
+        }
     }
 }

@@ -1,11 +1,11 @@
 -- A few bytes as the last ones of four whose others are zeros: the number that they make, and the register after them.
 -- Assumes nothing.
-use mathlib.Core.Path.{◌≡◌, sym, ap, ap₂, ◌∙◌}
+use mathlib.Core.Path.{◌≡◌, sym, ap, ◌∙◌}
 use mathlib.Core.List.{List, [], ◌++◌, append_assoc, append-nil}
 use Prim.Native.Nat.{ℕ, ◌+◌, ◌-◌, ◌*◌, ◌/◌, ◌^◌, ◌≤◌, ◌<◌}
 use native.Mathlib.Omega.{arith}
 use lib.ListN.{length, get_or, take, drop}
-use lib.Seq.{take-add, take_all, drop_at}
+use lib.Seq.{take-add, drop_at}
 use Rattle.laws.proofs.Lists.{next}
 use Rattle.bits.specs.Bits.{low_first, sent_bits}
 use Rattle.bits.proofs.Bits.{low-split, low-append, length-low_first}
@@ -38,9 +38,6 @@ behind_more l i v h short small e =
     let rest : low_first 24 (v / 256) ≡ zeros k ++ before = sym (drop_at (low_first 8 v) (low_first 24 (v / 256)) 8 (length-low_first 8 v)) ∙ ap (drop 8) split ∙ drop_at (zeros 8) (zeros k ++ before) 8 (length-zeros 8) in
     let more : sent_bits (take (i + 1) l) ≡ before ++ low_first 8 b = ap sent_bits (take-add i 1 l) ∙ sent-append (take i l) (take 1 (drop i l)) ∙ ap (before ++◌) (one-taken l i h) in
     sym (low-append 24 8 (v / 256) b (omega arith)) ∙ ap (◌++ low_first 8 b) rest ∙ append_assoc (zeros k) before (low_first 8 b) ∙ ap (zeros k ++◌) (sym more)
-
-pub behind-all : (l : List ℕ) (i v : ℕ) → i ≤ length l → length l ≤ i → Behind l i v → low_first 32 v ≡ zeros (32 - 8 * length l) ++ sent_bits l
-behind-all l i v h past e = let n : i ≡ length l = omega arith in e ∙ ap₂ (λ (k : ℕ) (t : List ℕ). zeros (32 - 8 * k) ++ sent_bits t) n (take_all i l past)
 
 -- the register that the zeros turn into all ones goes in before them
 pub behind-in : (l : List ℕ) (r₀ r v : ℕ) → length l ≤ 4 → through (mirrored r₀) (zeros (8 * (4 - length l))) ≡ 0xffff → low_first 32 v ≡ zeros (32 - 8 * length l) ++ sent_bits l

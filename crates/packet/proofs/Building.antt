@@ -14,7 +14,8 @@ use Rattle.bits.proofs.Bits.{length-high_first}
 use Rattle.bits.proofs.Bytes.{sent_bits-end, sent-append, length-sent}
 use Rattle.checking.specs.Check.{through, check_of, mirrored}
 use Rattle.stuffing.specs.Stuff.{flag, stuffed, left_after}
-use Rattle.stuffing.specs.Sending.{left_of, to_come, Leads}
+use Rattle.stuffing.specs.Filling.{left_of}
+use Rattle.stuffing.specs.Sending.{to_come, Leads}
 use Rattle.packet.specs.Packet.{frame_of, packet_of}
 use Rattle.stuffing.specs.declared.stuff.Sending.{Sending}
 use Rattle.checking.proofs.Register.{through-append, mirrored-bits, mirrored-not}
@@ -46,13 +47,12 @@ packet-short p h = omega (arith, length-packet p, stuffed-bound 4 (frame_of p) (
 
 -- what is left, sent, leads from the start to the end
 pub record Underway (bytes : List ℕ) (s₀ : Sending) (out₀ : List ℕ) (s : Sending) (out : List ℕ) (i : ℕ) : Type 0 where
-  pub four : s.tail < 16
   pub room : s.at + length (to_come s.tail (sent_bits (drop i bytes))) ≤ length out
   pub long : length out ≡ length out₀
   pub goes : (s' : Sending) (out' : List ℕ) → Leads (sent_bits (drop i bytes)) s out s' out' → Leads (sent_bits bytes) s₀ out₀ s' out'
 
-pub underway-start : {bytes out : List ℕ} {s : Sending} → s.tail < 16 → s.at + length (to_come s.tail (sent_bits bytes)) ≤ length out → Underway bytes s out s out 0
-underway-start h room = record { four = h; room = room; long = refl; goes = λ _ _ l. l }
+pub underway-start : {bytes out : List ℕ} {s : Sending} → s.at + length (to_come s.tail (sent_bits bytes)) ≤ length out → Underway bytes s out s out 0
+underway-start room = record { room = room; long = refl; goes = λ _ _ l. l }
 
 module _ {bytes out₀ out : List ℕ} {s₀ s : Sending} {i : ℕ} (u : Underway bytes s₀ out₀ s out i) where
   pub underway-room : (n : ℕ) → i + n ≤ length bytes → s.at + (8 * n + 8) ≤ length out
@@ -64,14 +64,13 @@ module _ {bytes out₀ out : List ℕ} {s₀ s : Sending} {i : ℕ} (u : Underwa
       let split : sent_bits (drop i bytes) ≡ bits ++ rest =
       ap sent_bits (sym (take-append-drop n (drop i bytes))) ∙ sent-append (take n (drop i bytes)) (drop n (drop i bytes)) ∙ ap₂ ◌++◌ e (ap sent_bits (drop-drop n i bytes)) in
       record {
-        four = l.four;
         room = omega (arith, u.room, l.size rest, ap (λ (t : List ℕ). s.at + length (to_come s.tail t)) split);
         long = long ∙ u.long;
         goes = λ s'' out'' k. u.goes s'' out'' (rw split (leads-on l k));
       }
 
   pub underway-end : length bytes ≤ i → Leads (sent_bits bytes) s₀ out₀ s out
-  underway-end past = u.goes s out (rw (done bytes i past, sent_bits-end) (leads-nowhere u.four))
+  underway-end past = u.goes s out (rw (done bytes i past, sent_bits-end) leads-nowhere)
 
 -- ---- the frame in three parts: the bytes that are more than whole fours, the others, and the check
 
@@ -103,13 +102,13 @@ pub record Sent (out bits : List ℕ) (s : Sending) (now : List ℕ) : Type 0 wh
   pub size : (rest : List ℕ) → s.at + length (to_come s.tail rest) ≡ 8 + length (to_come 0 (bits ++ rest))
   pub stored : (rest : List ℕ) → sets now s.at (to_come s.tail rest) ≡ sets out 0 (flag ++ to_come 0 (bits ++ rest))
 
-pub sent-none : (out : List ℕ) {now : List ℕ} → now ≡ sets out 0 flag → Sent out [] (record { at = 8; tail = 0 }) now
-sent-none out {now} e =
+pub sent-none : (out : List ℕ) {now : List ℕ} {s : Sending} → s.at ≡ 8 → s.tail ≡ 0 → now ≡ sets out 0 flag → Sent out [] s now
+sent-none out {now} {s} ea et e =
     let e8 : 0 + length flag ≡ 8 = omega (arith, length-flag) in
     record {
       long = rw (e, length-sets);
-      size = λ rest. refl;
-      stored = λ rest. rw e (sym (rw e8 at (sets-append flag (to_come 0 rest) out 0)));
+      size = λ rest. rw (ea, et) refl;
+      stored = λ rest. rw (ea, et, e) (sym (rw e8 at (sets-append flag (to_come 0 rest) out 0)));
     }
 
 pub sent-on : {out bits more now now' : List ℕ} {s s' : Sending} → Sent out bits s now → Leads more s now s' now' → length now' ≡ length now → Sent out (bits ++ more) s' now'
@@ -119,8 +118,8 @@ sent-on {out} {bits} {more} a l long = record {
   stored = λ rest. l.stored rest ∙ a.stored (more ++ rest) ∙ ap (λ (t : List ℕ). sets out 0 (flag ++ to_come 0 t)) (sym (append_assoc bits more rest));
 }
 
-pub sent-first : (out : List ℕ) {bits now now' : List ℕ} {s : Sending} → now ≡ sets out 0 flag → Leads bits (record { at = 8; tail = 0 }) now s now' → length now' ≡ length now → Sent out bits s now'
-sent-first out e l long = sent-on (sent-none out e) l long
+pub sent-first : (out : List ℕ) {bits now now' : List ℕ} {s₀ s : Sending} → s₀.at ≡ 8 → s₀.tail ≡ 0 → now ≡ sets out 0 flag → Leads bits s₀ now s now' → length now' ≡ length now → Sent out bits s now'
+sent-first out ea et e l long = sent-on (sent-none out ea et e) l long
 
 -- only the closing flag is left
 pub record Whole (p out : List ℕ) (s : Sending) (now : List ℕ) : Type 0 where

@@ -2,6 +2,7 @@ pub mod Behind
 pub mod Building
 pub mod Taken
 pub mod Answers
+pub mod Within
 pub mod Exactly
 pub mod Telling
 pub mod Unpacking

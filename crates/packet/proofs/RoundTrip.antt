@@ -9,9 +9,10 @@ use lib.Dec.{eqb}
 use borrow.Author.Tests.{leb-true, eqb-true}
 use lib.ListN.{length, take, drop, length-append, take-append-drop}
 use lib.Seq.{take_at, drop_at, drop-drop}
+use Rattle.std.specs.Prelude.{Ok}
 use Rattle.laws.specs.Tests.{both, between}
 use Rattle.laws.specs.Lists.{over, same, AllBytes}
-use Rattle.laws.proofs.Tests.{both_left, both_right, between_is}
+use Rattle.laws.proofs.Tests.{both_left, both_right, between-yes, between_is}
 use Rattle.laws.proofs.Lists.{same→eq, same_refl}
 use Rattle.laws.proofs.Unique.{unique}
 use Rattle.limits.specs.Limits.{payload_bytes, least_checked, most_checked, least_packet, most_packet}
@@ -22,8 +23,6 @@ use Rattle.checking.specs.Check.{check_of}
 use Rattle.stuffing.specs.Stuff.{flag, stuffed, legal, unstuffed}
 use Rattle.packet.specs.Packet.{frame_of, packet_of, write_answer, write_out, body_of, flagged, frame_in, whole_bytes, checked, payload_length, frame_answer, body_answer, read_answer, read_out}
 use Rattle.packet.specs.Promises.{ReadAfterWrite, WriteAfterRead, WriteOnce, ReadOnce}
-use Rattle.packet.specs.declared.Packed.TheVariants.{Bits}
-use Rattle.packet.specs.declared.Unpacked.TheVariants.{Bytes}
 use Rattle.stuffing.proofs.Stuffing.{stuffed-least, legal-stuffed, unstuffed-stuffed, stuffed-unstuffed, unstuffed-bits}
 use Rattle.packet.proofs.Building.{length-flag, length-frame, length-packet, packet-short}
 use Rattle.packet.proofs.Answers.{write-good, whole, check-good, stuffing-good, read-body}
@@ -89,22 +88,22 @@ unfolding unstuffed
 come-off k bs = ap (unstuffed (suc k)) (sym (append-nil (stuffed k bs))) ∙ unstuffed-stuffed k bs [] ∙ append-nil bs
 
 module _ (p : List ℕ) (some : 1 ≤ length p) (short : length p ≤ payload_bytes) where
-  frame-answer : Bytes (length p) ≡ frame_answer (frame_of p)
+  frame-answer : Ok (length p) ≡ frame_answer (frame_of p)
   frame-answer =
       let l = length-frame p in
       let n : payload_length (frame_of p) ≡ length p = omega (arith, l) in
-      sym (ap Bytes n) ∙ check-good (frame_of p) (whole (frame_of p) (omega (arith, l)) (omega (arith, l)) (omega (arith, l))) (checked-frame p)
+      sym (ap Ok n) ∙ check-good (frame_of p) (whole (frame_of p) (omega (arith, l)) (omega (arith, l)) (omega (arith, l))) (checked-frame p)
 
   frame_back : frame_in (body_of (packet_of p)) ≡ frame_of p
   unfolding frame_in
   frame_back = ap (unstuffed 5) (body_is p) ∙ come-off 4 (frame_of p)
 
-  written_read : (room : ℕ) → payload_bytes ≤ room → read_answer (packet_of p) room ≡ Bytes (length p)
+  written_read : (room : ℕ) → payload_bytes ≤ room → read_answer (packet_of p) room ≡ Ok (length p)
   written_read room h =
       let l = length-packet p in
       let body : body_answer (body_of (packet_of p)) ≡ frame_answer (frame_of p) =
       sym (stuffing-good (body_of (packet_of p)) (ap (legal 5) (body_is p) ∙ stay-legal 4 (frame_of p))) ∙ ap frame_answer frame_back in
-      sym (read-body (packet_of p) room (omega (arith, l, length-frame p, stuffed-least 4 (frame_of p))) (packet-short p short) h (packet-bits p) (flagged-packet p)) ∙ body ∙ sym frame-answer
+      sym (read-body (packet_of p) room (between-yes least_packet most_packet (length (packet_of p)) (omega (arith, l, length-frame p, stuffed-least 4 (frame_of p))) (packet-short p short)) h (packet-bits p) (flagged-packet p)) ∙ body ∙ sym frame-answer
 
   payload-back : AllBytes p → bytes_of (length p) (frame_in (body_of (packet_of p))) ≡ p
   unfolding frame_of
@@ -155,14 +154,13 @@ read-after-write p room n bytes e out h =
     (sym (written_read p w.some w.few (length out) h), ap (λ (t : List ℕ). over t out) (sym (payload-back p w.some w.few bytes)))
 
 -- the tests that an accepted packet passed, and how many bytes it gave
-accepted : (xs : List ℕ) (room n : ℕ) → read_answer xs room ≡ Bytes n → payload_length (frame_in (body_of xs)) ≡ n
+accepted : (xs : List ℕ) (room n : ℕ) → read_answer xs room ≡ Ok n → payload_length (frame_in (body_of xs)) ≡ n
 accepted xs room n e =
     let t = passed xs room n e in
-    let l = between_is least_packet most_packet (length xs) t.long in
-    let r = check-good _ t.whole t.check ∙ stuffing-good _ t.stuffing ∙ read-body xs room l.0 l.1 (leb-true payload_bytes room t.lent) t.bits t.flags ∙ e in
+    let r = check-good _ t.whole t.check ∙ stuffing-good _ t.stuffing ∙ read-body xs room t.long (leb-true payload_bytes room t.lent) t.bits t.flags ∙ e in
     cc
 
-module _ (xs : List ℕ) (room n : ℕ) (e : read_answer xs room ≡ Bytes n) where
+module _ (xs : List ℕ) (room n : ℕ) (e : read_answer xs room ≡ Ok n) where
   again : (packet_of (bytes_of n (frame_in (body_of xs))) ≡ xs) × (1 ≤ n) × (n ≤ payload_bytes)
   unfolding packet_of frame_in
   again =
@@ -183,7 +181,7 @@ write-after-read xs room n e out h =
     let a = again xs room n e in
     let p = bytes_of n (frame_in (body_of xs)) in
     let k = length-bytes_of n (frame_in (body_of xs)) in
-    (sym (ap (λ (u : List ℕ). Bits (length u)) a.0) ∙ write-good p (length out) (omega (arith, a.1)) (omega (arith, a.2)) h, ap (λ (u : List ℕ). over u out) (sym a.0))
+    (sym (ap (λ (u : List ℕ). Ok (length u)) a.0) ∙ write-good p (length out) (between-yes 1 payload_bytes (length p) (omega (arith, a.1)) (omega (arith, a.2))) h, ap (λ (u : List ℕ). over u out) (sym a.0))
 
 pub write-once : WriteOnce
 write-once p out r r' o o' h k = unique (λ a. write_out a p out) h k
@@ -192,12 +190,12 @@ pub read-once : ReadOnce
 read-once xs out r r' o o' h k = unique (λ a. read_out a (frame_in (body_of xs)) out) h k
 
 -- how many bits and bytes a count can be
-pub written-few : (p : List ℕ) (room n : ℕ) → write_answer p room ≡ Bits n → n ≤ most_packet
+pub written-few : (p : List ℕ) (room n : ℕ) → write_answer p room ≡ Ok n → n ≤ most_packet
 written-few p room n e =
     let w = sendable p room n e in
-    let g = write-good p room w.some w.few w.lent ∙ e in
+    let g = write-good p room (between-yes 1 payload_bytes (length p) w.some w.few) w.lent ∙ e in
     let s : length (packet_of p) ≡ n = cc in
     omega (arith, packet-short p w.few)
 
-pub received-few : (xs : List ℕ) (room n : ℕ) → read_answer xs room ≡ Bytes n → n ≤ payload_bytes
+pub received-few : (xs : List ℕ) (room n : ℕ) → read_answer xs room ≡ Ok n → n ≤ payload_bytes
 received-few xs room n e = (again xs room n e).2

@@ -9,7 +9,7 @@ use native.Mathlib.Omega.{arith}
 use lib.Dec.{T, eqb, ltb, leb-suc-suc, leb-zero}
 use lib.ListN.{length, take, drop, length-append, length-take, length-drop}
 use lib.Pow.{pow_mono}
-use lib.Seq.{drop-drop, take-add, take_at, take-take, length-take-le}
+use lib.Seq.{drop-drop, take-add, take_all, take_at, drop_at, take-take, length-take-le}
 use Rattle.laws.specs.Tests.{pick}
 use Rattle.laws.proofs.Tests.{is_true}
 use Rattle.laws.proofs.Table.{all_below, below}
@@ -20,7 +20,7 @@ use Rattle.bits.proofs.Bytes.{sent_bits-end}
 use Rattle.checking.specs.Check.{zeros}
 use Rattle.stuffing.specs.Stuff.{legal, unstuffed}
 use Rattle.packet.specs.Packet.{body_of}
-use Rattle.stuffing.specs.Taking.{left_in, left_by, Sound, pending, lawful, Took}
+use Rattle.stuffing.specs.Taking.{left_in, left_by, pending, lawful, Took}
 use Rattle.packet.specs.Reading.{Unstuffed}
 use Rattle.stuffing.specs.declared.unstuff.Taking.{Taking}
 use Rattle.checking.proofs.Zeros.{zeros-low, zeros-add}
@@ -55,9 +55,6 @@ module _ (bits : List ℕ) (i : ℕ) (are : all_bits bits ≡ true) (long : i + 
       sym (take_at (low_first over v) (low_first g (v / 2 ^ over)) over (length-low_first over v)) ∙ ap (take over) (sym (low-cut over g v) ∙ ap (λ (m : ℕ). low_first m v) n ∙ word-bits)
       ∙ take-take over 32 (drop i bits) (omega arith) in
       ap (low_first 32) r ∙ low_word x ∙ sym moved ∙ ap₂ ◌++◌ (zeros-low g) front
-
-  pub took-word : {raw₀ raw raw' : List ℕ} {s₀ s s' : Taking} → Took (take i bits) s₀ raw₀ s raw → Took (low_first 32 v) s raw s' raw' → Took (take (i + 32) bits) s₀ raw₀ s' raw'
-  took-word a b = rw (take-add i 32 bits) (took_more a (rw word-bits at b))
 
 -- ---- the end
 
@@ -103,9 +100,6 @@ five-left : left_by 0 ≡ 5
 unfolding left_by left_in low_first
 five-left = refl
 
-pub sound-first : {raw : List ℕ} {s : Taking} → s.tail ≡ 0 → s.part ≡ 0 → s.have < 32 → s.count ≡ 0 → Sound s raw
-sound-first {raw} {s} et ep few ec = record { five = omega (arith, et); under = few; small = omega (arith, ep, some s.have); fits = omega (arith, ec) }
-
 pub took-all : {body raw₀ raw : List ℕ} {s₀ s : Taking} (over : ℕ) → over < 32 → s₀.tail ≡ 0 → s₀.spoilt ≡ false → s₀.part ≡ 0 → s₀.have ≡ over → s₀.count ≡ 0 → length body ≤ most_body
     → Took (zeros (32 - over) ++ body) s₀ raw₀ s raw → Unstuffed body s raw
 unfolding pending lawful
@@ -143,3 +137,37 @@ body-parts bits over few long e =
 pub body-short : (bits : List ℕ) → length bits ≤ most_packet → length (body_of bits) ≤ most_body
 unfolding body_of
 body-short bits h = omega (arith, length-take (length bits - 8 - 8) (drop 8 bits))
+
+-- ---- words taken one after the other
+
+-- the words so far are taken, and rest is what is left of the part
+pub record Onward (part : List ℕ) (s₀ : Taking) (raw₀ : List ℕ) (s : Taking) (raw rest : List ℕ) : Type 0 where
+  pub gone : List ℕ
+  pub whole : gone ++ rest ≡ part
+  pub took : Took gone s₀ raw₀ s raw
+  pub are : all_bits rest ≡ true
+  pub words : length rest % 32 ≡ 0
+  pub long : length raw ≡ length raw₀
+
+module _ {part raw₀ raw rest : List ℕ} {s₀ s : Taking} (o : Onward part s₀ raw₀ s raw rest) (word rest' : List ℕ) (next : rest ≡ word ++ rest') (full : length word ≡ 32) where
+  pub word-are : all_bits word ≡ true
+  word-are = ap all_bits (sym (ap (take 32) next ∙ take_at word rest' 32 full)) ∙ all_bits-take 32 rest o.are
+
+  rest-are : all_bits rest' ≡ true
+  rest-are = ap all_bits (sym (ap (drop 32) next ∙ drop_at word rest' 32 full)) ∙ all_bits-drop 32 rest o.are
+
+  pub word-room : 8 * s₀.count + s₀.have + length part + 32 ≤ 8 * length raw₀ → s.count + 8 ≤ length raw
+  word-room h = omega (arith, o.took.more, o.long, ap length o.whole, length-append o.gone rest, ap length next, length-append word rest', full)
+
+  pub onward-next : {v : ℕ} {s' : Taking} {raw' : List ℕ} → v ≡ low_value (take 32 word) → Took (low_first 32 v) s raw s' raw' → length raw' ≡ length raw → Onward part s₀ raw₀ s' raw' rest'
+  onward-next ev t long =
+      let all : take 32 word ≡ word = take_all 32 word (omega (arith, full)) in
+      let is : low_first 32 _ ≡ word = ap (low_first 32) (ev ∙ ap low_value all) ∙ bits_back 32 word full word-are in
+      record {
+        gone = o.gone ++ word;
+        whole = append_assoc o.gone word rest' ∙ ap (o.gone ++◌) (sym next) ∙ o.whole;
+        took = took_more o.took (rw is at t);
+        are = rest-are;
+        words = omega (arith, o.words, ap length next, length-append word rest', full);
+        long = long ∙ o.long;
+      }

@@ -122,6 +122,9 @@ module _ (raw : List ℕ) (n : ℕ) (long : length raw ≡ n + 6) (bytes : (i : 
       let four : length (take 4 raw) ≡ 4 = length-take-le 4 raw (omega arith) in
       sym (bytes_back (take 4 raw) [] (take-bytes 4 raw (all-bytes raw bytes))) ∙ ap₂ (λ (k : ℕ) (t : List ℕ). bytes_of k (t ++ [])) four (e ∙ sym (sent-zeros 4)) ∙ zeros-back
 
-  -- what copying the payload comes to
-  pub copied : (out : List ℕ) {out' : List ℕ} {m : ℕ} → m ≡ n → out' ≡ over (take m (drop 4 raw)) out → out' ≡ over (bytes_of n (sent_bits (drop 4 raw))) out
-  copied out em e = e ∙ rw (em, payload-out) refl
+  -- the payload copied to the front of what is lent
+  pub copied : (out : List ℕ) {front : List ℕ} {m : ℕ} → m ≡ n → front ≡ take m (drop 4 raw) → front ++ drop n out ≡ over (bytes_of n (sent_bits (drop 4 raw))) out
+  unfolding over
+  copied out {front} em e =
+      let p : front ≡ bytes_of n (sent_bits (drop 4 raw)) = e ∙ rw (em, payload-out) refl in
+      ap₂ (λ (a : List ℕ) (k : ℕ). a ++ drop k out) p (sym (ap length payload-out ∙ payload-bytes))

@@ -3,11 +3,14 @@
 use mathlib.Core.Path.{◌≡◌, sym, ap, ap₂, ◌∙◌}
 use mathlib.Core.Bool.{true, false}
 use mathlib.Core.List.{List, ◌++◌}
-use Prim.Native.Nat.{ℕ, ◌+◌, ◌*◌, ◌/◌, ◌%◌, ◌≤◌, ◌<◌}
+use Prim.Native.Nat.{ℕ, ◌+◌, ◌*◌, ◌/◌, ◌%◌, ◌≤◌}
 use native.Mathlib.Omega.{arith}
 use borrow.Author.Tests.{eq-eqb, ne_eqb}
 use lib.ListN.{length, take, drop, length-append, take-append-drop}
 use lib.Seq.{sets, length-sets, take_at, drop_at, length-take-le}
+use Rattle.std.specs.Prelude.{Err}
+use Rattle.laws.specs.Tests.{between}
+use Rattle.laws.proofs.Tests.{never, not-true, between-yes, between_is}
 use Rattle.limits.specs.Limits.{least_checked, most_checked}
 use Rattle.numbers.specs.declared.Refusal.TheVariants.{BadStuffing, NotWhole}
 use Rattle.bits.specs.Bits.{low_first, sent_bits, eight_of}
@@ -17,18 +20,17 @@ use Rattle.checking.specs.Check.{zeros}
 use Rattle.stuffing.specs.Stuff.{legal, unstuffed}
 use Rattle.packet.specs.Packet.{frame_in, frame_answer, body_answer}
 use Rattle.packet.specs.Reading.{raw_bytes, Unstuffed}
-use Rattle.packet.specs.declared.Unpacked.TheVariants.{Refused}
 use Rattle.stuffing.specs.declared.unstuff.Taking.{Taking}
 use Rattle.checking.proofs.Zeros.{length-zeros}
-use Rattle.packet.proofs.Answers.{stuffing-bad, stuffing-good, count-odd, count_low, count-high, count-bad}
+use Rattle.packet.proofs.Answers.{stuffing-bad, stuffing-good, count-odd, count-out, count-bad}
 use Rattle.stuffing.proofs.Takings.{stored-sent}
 
 module _ {body raw : List ℕ} {s : Taking} (u : Unstuffed body s raw) where
-  pub spoilt-bad : s.spoilt ≡ true → Refused BadStuffing ≡ body_answer body
+  pub spoilt-bad : s.spoilt ≡ true → Err BadStuffing ≡ body_answer body
   spoilt-bad e = stuffing-bad body (sym (rw e at u.law))
 
   module _ (clean : s.spoilt ≡ false) where
-    pub end-bad : s.tail ≡ 31 → Refused BadStuffing ≡ body_answer body
+    pub end-bad : s.tail ≡ 31 → Err BadStuffing ≡ body_answer body
     end-bad e = stuffing-bad body (sym (rw (clean, eq-eqb s.tail 31 e) at u.law))
 
     size : 8 * s.count + s.have ≡ 32 + length (unstuffed 5 body)
@@ -50,21 +52,22 @@ module _ {body raw : List ℕ} {s : Taking} (u : Unstuffed body s raw) where
       pub body-legal : legal 5 body ≡ true
       body-legal = sym (rw (clean, ne_eqb s.tail 31 some) at u.law)
 
-      not-whole : Refused NotWhole ≡ frame_answer (frame_in body) → Refused NotWhole ≡ body_answer body
+      not-whole : Err NotWhole ≡ frame_answer (frame_in body) → Err NotWhole ≡ body_answer body
       not-whole h = h ∙ stuffing-good body body-legal
 
-      pub over-bad : (s.have % 8 ≡ 0 → ⊥) → Refused NotWhole ≡ body_answer body
+      pub over-bad : (s.have % 8 ≡ 0 → ⊥) → Err NotWhole ≡ body_answer body
       unfolding frame_in
       over-bad h = not-whole (count-bad _ (count-odd (unstuffed 5 body) (λ z. h (omega (arith, size)))))
 
       module _ (none : s.have % 8 ≡ 0) where
-        pub few-bad : s.count + s.have / 8 < 4 + least_checked / 8 → Refused NotWhole ≡ body_answer body
+        pub length-bad : between (4 + least_checked / 8) (4 + most_checked / 8) (s.count + s.have / 8) ≡ false → Err NotWhole ≡ body_answer body
         unfolding frame_in
-        few-bad h = not-whole (count-bad _ (count_low (unstuffed 5 body) (omega (arith, size))))
-
-        pub many-bad : 4 + most_checked / 8 < s.count + s.have / 8 → Refused NotWhole ≡ body_answer body
-        unfolding frame_in
-        many-bad h = not-whole (count-bad _ (count-high (unstuffed 5 body) (omega (arith, size))))
+        length-bad h =
+            let f = unstuffed 5 body in
+            let far : between least_checked most_checked (length f) ≡ true → ⊥ = λ e.
+            let l = between_is least_checked most_checked (length f) e in
+            never (sym h ∙ between-yes (4 + least_checked / 8) (4 + most_checked / 8) (s.count + s.have / 8) (omega (arith, size, l.0)) (omega (arith, size, l.1))) in
+            not-whole (count-bad _ (count-out f (not-true _ far)))
 
         -- the last bytes stored, and all of them taken
         module _ {raw' : List ℕ} {n : ℕ} (long : length raw ≡ raw_bytes) (en : n ≡ s.count + s.have / 8) (enough : 4 + least_checked / 8 ≤ n) (is : raw' ≡ sets raw s.count (eight_of s.part)) where

@@ -16,59 +16,37 @@ use writing::build;
 
 const FLAG: u8 = 0x7e;
 
-#[derive(Clone, Copy)]
-pub enum Packed {
-    // so many bits
-    Bits(usize),
-    Refused(Refusal),
-}
-
-#[derive(Clone, Copy)]
-pub enum Unpacked {
-    // so many bytes
-    Bytes(usize),
-    Refused(Refusal),
-}
-
 // The packet of a payload, one bit to a byte, in the first places of out: 11, 12.
 #[tactic(auto, using(crate::proofs::Answers::writing_steps), unfolding(crate::specs::Packet::write_out))]
-pub fn write(payload: &[u8], out: &mut [u8]) -> Packed
+pub fn write(payload: &[u8], out: &mut [u8]) -> Result<usize, Refusal>
     ensures { Writes payload.now out.old result out.new }
 {
-    if payload.len() < 1 {
-        return Packed::Refused(Refusal::BadLength);
-    }
-    if payload.len() > PAYLOAD {
-        return Packed::Refused(Refusal::BadLength);
+    if !(1..=PAYLOAD).contains(&payload.len()) {
+        return Err(Refusal::BadLength);
     }
     if out.len() < MOST_PACKET {
-        return Packed::Refused(Refusal::NoRoom);
+        return Err(Refusal::NoRoom);
     }
-    Packed::Bits(build(payload, out))
+    Ok(build(payload, out))
 }
 
 // The payload of a packet in the first places of out: 11, 12, 10, 13 to 16.
-pub fn read(bits: &[u8], out: &mut [u8]) -> Unpacked
+#[tactic(auto, using(crate::proofs::Answers::reading_steps), unfolding(crate::specs::Packet::read_out))]
+pub fn read(bits: &[u8], out: &mut [u8]) -> Result<usize, Refusal>
     ensures { Reads bits.now out.old result out.new }
 {
     let n = bits.len();
-    if n < LEAST_PACKET {
-        return Unpacked::Refused(Refusal::BadLength);
-    }
-    if n > MOST_PACKET {
-        return Unpacked::Refused(Refusal::BadLength);
+    if !(LEAST_PACKET..=MOST_PACKET).contains(&n) {
+        return Err(Refusal::BadLength);
     }
     if out.len() < PAYLOAD {
-        return Unpacked::Refused(Refusal::NoRoom);
+        return Err(Refusal::NoRoom);
     }
     if !are_bits(bits) {
-        return Unpacked::Refused(Refusal::NotBits);
+        return Err(Refusal::NotBits);
     }
-    if byte_at(bits, 0) != FLAG {
-        return Unpacked::Refused(Refusal::NoFlag);
-    }
-    if byte_at(bits, n - 8) != FLAG {
-        return Unpacked::Refused(Refusal::NoFlag);
+    if byte_at(bits, 0) != FLAG || byte_at(bits, n - 8) != FLAG {
+        return Err(Refusal::NoFlag);
     }
     unpack(bits, out)
 }

@@ -1,4 +1,5 @@
-// What the bits of a packet hold: the bytes between its flags, unstuffed, and the payload where its check is right.
+// What the bits of a packet hold: the bytes between its flags, unstuffed, and the payload where its check is right. That every bit is 0 or 1 stands
+// in the clause of each function, and in no type: they go on to slices and chunks of the bits, each of which a type would have to be made for anew.
 ghost use Rattle.std.specs.Prelude.{◌≡◌, true, ◌++◌, ◌+◌, ◌-◌, ◌*◌, ◌/◌, ◌%◌, ◌^◌, ◌≤◌, ◌<◌, length, take, drop};
 ghost use Rattle.laws.specs.Lists.{over};
 ghost use Rattle.limits.specs.Limits.{payload_bytes, least_checked, most_checked, least_packet, most_packet};
@@ -8,7 +9,6 @@ ghost use Rattle.packet.specs.Packet.{body_of, frame_in, frame_answer, body_answ
 ghost use Rattle.stuffing.specs.Taking.{Sound, Took};
 ghost use Rattle.packet.specs.Reading.{raw_bytes, Unstuffed};
 
-use crate::Unpacked;
 use bits::{store_eight, word_at};
 use checking::register_after;
 use limits::{LEAST_CHECKED, MOST_BODY, MOST_CHECKED};
@@ -36,17 +36,15 @@ fn take_all(part: &[u8], raw: &mut [u8], from: Taking) -> Taking
     ensures { Took part.now from raw.old result raw.new }
 {
     let mut s = from;
-    let mut i = 0;
-    while i < part.len() {
-        s = take_word(word_at(part, i), raw, s);
-        i += 32;
+    for word in part.chunks_exact(32) {
+        s = take_word(word_at(word, 0), raw, s);
     }
     s
 }
 
 // All bits between the flags. What is over goes first, so that from then on 32 bits make four bytes; the first four bytes are zeros.
-fn unstuff(bits: &[u8], raw: &mut [u8]) -> Taking
-    requires { (all_bits bits.now ≡ true) × (least_packet ≤ length bits.now) × (length bits.now ≤ most_packet) × (length raw.old ≡ raw_bytes) }
+fn unstuff(bits: &[u8], raw: &mut [u8; RAW]) -> Taking
+    requires { (all_bits bits.now ≡ true) × (least_packet ≤ length bits.now) × (length bits.now ≤ most_packet) }
     ensures { Unstuffed (body_of bits.now) result raw.new }
 {
     let n = bits.len();
@@ -59,66 +57,41 @@ fn unstuff(bits: &[u8], raw: &mut [u8]) -> Taking
         count: 0,
     };
     let first = take_word(first_word(bits, over), raw, start);
-    let from = 8 + over;
-    let e = n - 8;
-    take_all(&bits[from..e], raw, first)
-}
-
-// Copies bytes to the front of a buffer, and says how many.
-fn copy(from: &[u8], to: &mut [u8]) -> usize
-    requires { length from.now ≤ length to.old }
-    ensures { (result ≡ length from.now) × (to.new ≡ over from.now to.old) }
-{
-    let n = from.len();
-    to[..n].copy_from_slice(from);
-    n
-}
-
-// The check that two bytes tell, mirrored as the register is.
-fn told(first: u8, second: u8) -> u16
-    ensures { result ≡ first + second * 256 }
-{
-    (first as u16) + (second as u16) * 256
+    take_all(&bits[8 + over..n - 8], raw, first)
 }
 
 // The payload of whole bytes, payload and check, behind four zeros: 16.
-fn unframe(raw: &[u8], out: &mut [u8]) -> Unpacked
+fn unframe(raw: &[u8], out: &mut [u8]) -> Result<usize, Refusal>
     requires { (sent_bits (take 4 raw.now) ≡ zeros 32) × (4 + least_checked / 8 ≤ length raw.now) × (length raw.now ≤ 4 + most_checked / 8) × (payload_bytes ≤ length out.old) }
     ensures { (result ≡ frame_answer (sent_bits (drop 4 raw.now))) × (out.new ≡ read_out result (sent_bits (drop 4 raw.now)) out.old) }
 {
     let n = raw.len() - 6;
     let end = 4 + n;
-    let sent = told(raw[end], raw[end + 1]);
-    if 0xffff - register_after(raw, n) == sent {
-        return Unpacked::Bytes(copy(&raw[4..end], out));
+    let sent = u16::from_le_bytes([raw[end], raw[end + 1]]);
+    if 0xffff - register_after(raw, n) != sent {
+        return Err(Refusal::BadCheck);
     }
-    Unpacked::Refused(Refusal::BadCheck)
+    out[..n].copy_from_slice(&raw[4..end]);
+    Ok(n)
 }
 
 // The payload of a packet of bits between flags: 14, 15, 16.
-pub fn unpack(bits: &[u8], out: &mut [u8]) -> Unpacked
+pub fn unpack(bits: &[u8], out: &mut [u8]) -> Result<usize, Refusal>
     requires { (all_bits bits.now ≡ true) × (least_packet ≤ length bits.now) × (length bits.now ≤ most_packet) × (payload_bytes ≤ length out.old) }
     ensures { (result ≡ body_answer (body_of bits.now)) × (out.new ≡ read_out result (frame_in (body_of bits.now)) out.old) }
 {
     let mut raw = [0u8; RAW];
     let end = unstuff(bits, &mut raw);
-    if end.spoilt {
-        return Unpacked::Refused(Refusal::BadStuffing);
-    }
-    if end.tail == 31 {
-        return Unpacked::Refused(Refusal::BadStuffing);
+    if end.spoilt || end.tail == 31 {
+        return Err(Refusal::BadStuffing);
     }
     if end.have % 8 != 0 {
-        return Unpacked::Refused(Refusal::NotWhole);
+        return Err(Refusal::NotWhole);
     }
-    let count = end.count;
-    let n = count + (end.have / 8) as usize;
-    if n < LEAST_RAW {
-        return Unpacked::Refused(Refusal::NotWhole);
+    let n = end.count + (end.have / 8) as usize;
+    if !(LEAST_RAW..=MOST_RAW).contains(&n) {
+        return Err(Refusal::NotWhole);
     }
-    if n > MOST_RAW {
-        return Unpacked::Refused(Refusal::NotWhole);
-    }
-    store_eight(&mut raw, count, end.part);
+    store_eight(&mut raw, end.count, end.part);
     unframe(&raw[..n], out)
 }

@@ -4,7 +4,7 @@ use mathlib.Core.Path.{refl, ap, ◌∙◌}
 use mathlib.Core.Bool.{true, false}
 use Prim.Native.Nat.{ℕ}
 use native.Mathlib.Omega.{arith}
-use Rattle.plan.specs.declared.Lies.TheVariants.{In, Outside}
+use Rattle.std.specs.Prelude.{Some, None}
 use Rattle.plan.specs.Times.{meant}
 use Rattle.plan.specs.Promises.{GoodOnce, GapsFloorOrCeil, GapsMakeAFrame, NominalInTheMiddle, NoSlotInTwo, ToldOnce, SlotsTellTimes, NoTimeInTwo, EachHasOneNext, NoNearer, NoFarther, MeantIsAhead}
 use Rattle.plan.proofs.Gaps.{gap-two, gaps-sum}
@@ -30,10 +30,10 @@ pub no-slot-in-two : NoSlotInTwo
 no-slot-in-two = one-slot
 
 pub told-once : ToldOnce
-told-once p good n b (In k) (In l) v w = ap In (one-slot p good k l n b v w)
-told-once p good n b (In k) Outside v w = absurd (w k v)
-told-once p good n b Outside (In l) v w = absurd (v l w)
-told-once p good n b Outside Outside v w = refl
+told-once p good n b (Some k) (Some l) v w = ap Some (one-slot p good k l n b v w)
+told-once p good n b (Some k) None v w = absurd (w k v)
+told-once p good n b None (Some l) v w = absurd (v l w)
+told-once p good n b None None v w = refl
 
 pub slots-tell-times : SlotsTellTimes
 slots-tell-times p k t = record { number = slot-within p k t; start = λ w l. (slot-comes p k t w l, slot-inside p k t w) }

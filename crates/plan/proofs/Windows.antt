@@ -1,15 +1,12 @@
 -- Windows in slot numbers, by their comings in slot times.
 -- Assumes nothing.
+use Rattle.std.specs.Prelude.{Option, Some, None, MatchOption}
 use mathlib.Core.Path.{◌≡◌}
-use mathlib.Core.Bool.{Bool, false}
-use mathlib.Core.Logic.{◌↔◌}
 use Prim.Native.Nat.{ℕ, ◌+◌, ◌-◌, ◌%◌, ◌≤◌, ◌<◌}
-use native.Mathlib.Decide.{ℕ_discrete}
 use native.Mathlib.Omega.{arith}
-use lib.Dec.{T}
 use Rattle.limits.specs.Limits.{frame_slots}
 use Rattle.plan.specs.declared.Plan.{Plan}
-use Rattle.plan.specs.Plan.{InRange, nominal, half, slots, first, since, InWindow}
+use Rattle.plan.specs.Plan.{InRange, nominal, half, slots, first, since, InWindow, Tells}
 use Rattle.plan.specs.Times.{Comes, Within}
 use Rattle.plan.proofs.Gaps.{nominal-below, first_below, half-most}
 use Rattle.plan.proofs.Comings.{no-overlap, one-window}
@@ -50,11 +47,9 @@ one-slot p good k l n b v w =
         let e : f ≡ g = no-overlap p good k l f g t c d (slot-inside p k t v) (slot-inside p l t w) in
         one-window p good k l g (rw e at c) d
 
--- one more window gone through that has not the slot
-pub none_more : (p : Plan) (n k : ℕ) (b : Bool) → (T b ↔ InWindow p k n) → b ≡ false → ((j : ℕ) → j < k → InWindow p j n → ⊥)
-    → (j : ℕ) → j < k + 1 → InWindow p j n → ⊥
-none_more p n k b h e none j l w = go (ℕ_discrete j k)
-  where
-    go : Dec (j ≡ k) → ⊥
-    go (yes i) = rw e at (h.1 (rw i at w))
-    go (no d) = none j (omega arith) w
+-- what a search through the windows finds is told so
+pub told : (p : Plan) (n : ℕ) (r : Option ℕ)
+    → MatchOption r ((k : ℕ) → 0 ≤ k → k < p.rate → InWindow p k n → ⊥) (λ k. (0 ≤ k) × (k < p.rate) × InWindow p k n × ((j : ℕ) → 0 ≤ j → j < k → InWindow p j n → ⊥))
+    → Tells p n r
+told p n None none = λ k w. none k (omega arith) w.known w
+told p n (Some k) one = one.2

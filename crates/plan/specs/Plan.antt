@@ -1,10 +1,8 @@
 -- The plan of own reports, in slot numbers: nominal slots, windows, and the gaps between neighbouring nominal slots.
 -- Assumes nothing.
-use Rattle.std.specs.Prelude.{ℕ, zero, suc, ◌+◌, ◌-◌, ◌*◌, ◌/◌, ◌%◌, ◌≤◌, ◌<◌}
+use Rattle.std.specs.Prelude.{ℕ, zero, suc, ◌+◌, ◌-◌, ◌*◌, ◌/◌, ◌%◌, ◌≤◌, ◌<◌, Option, MatchOption}
 use Rattle.limits.specs.Limits.{frame_slots, most_rate, tenth}
 use Rattle.plan.specs.declared.Plan.{Plan}
-use Rattle.plan.specs.declared.Lies.{Lies}
-use Rattle.plan.specs.declared.Lies.TheVariants.{In, Outside}
 
 -- a plan in its range; any other counts as none
 pub record InRange (p : Plan) : Type 0 where
@@ -44,9 +42,8 @@ pub record InWindow (p : Plan) (k n : ℕ) : Type 0 where
   pub near : since (first p k) n < slots p
 
 -- what is told of the slot number n is so: a window that it lies in, or that it lies in none
-abbrev pub Tells : Plan → ℕ → Lies → Type 0
-Tells p n (In k) = InWindow p k n
-Tells p n Outside = (k : ℕ) → InWindow p k n → ⊥
+abbrev pub Tells : Plan → ℕ → Option ℕ → Type 0
+Tells p n r = MatchOption r ((k : ℕ) → InWindow p k n → ⊥) (λ k. InWindow p k n)
 
 -- ---- gaps
 

@@ -1,9 +1,8 @@
 -- What is promised of a plan, beyond what each method's contract says. Proved in proofs/Promised.antt.
 -- Assumes nothing.
-use Rattle.std.specs.Prelude.{ℕ, ◌+◌, ◌-◌, ◌*◌, ◌%◌, ◌≤◌, ◌<◌, ◌≡◌, Bool, ◌⊎◌, ◌↔◌, T}
+use Rattle.std.specs.Prelude.{ℕ, ◌+◌, ◌-◌, ◌*◌, ◌%◌, ◌≤◌, ◌<◌, ◌≡◌, Bool, Option, ◌⊎◌, ◌↔◌, T}
 use Rattle.limits.specs.Limits.{frame_slots}
 use Rattle.plan.specs.declared.Plan.{Plan}
-use Rattle.plan.specs.declared.Lies.{Lies}
 use Rattle.plan.specs.Plan.{InRange, nominal, half, first, floor_gap, ceil_gap, after, gap, gaps, since, InWindow, Tells}
 use Rattle.plan.specs.Times.{Comes, Within, Next, meant}
 
@@ -34,7 +33,7 @@ NoSlotInTwo = (p : Plan) → InRange p → (k l n : ℕ) → n < frame_slots →
 
 -- so no second answer meets the contract of window_of
 abbrev pub ToldOnce : Type 0
-ToldOnce = (p : Plan) → InRange p → (n : ℕ) → n < frame_slots → (r r' : Lies) → Tells p n r → Tells p n r' → r ≡ r'
+ToldOnce = (p : Plan) → InRange p → (n : ℕ) → n < frame_slots → (r r' : Option ℕ) → Tells p n r → Tells p n r' → r ≡ r'
 
 -- ---- windows in slot times
 

@@ -13,18 +13,12 @@ const TENTH: u16 = limits::TENTH as u16;
 
 const MOST_RATE: u16 = limits::MOST_RATE as u16;
 
-// Any rate and start can stand here; a plan out of its range counts as none.
+// Any rate and start can stand here; a plan out of its range counts as none. Methods ask for one in its range each by itself, since they are called on what
+// is set: a type of such plans alone would ask more of their callers.
 #[derive(Clone, Copy)]
 pub struct Plan {
     pub rate: u16,
     pub start: u16,
-}
-
-// Where a slot lies: in the window of this k, or in none.
-#[derive(Clone, Copy)]
-pub enum Lies {
-    In(u16),
-    Outside,
 }
 
 impl Plan {
@@ -36,30 +30,21 @@ impl Plan {
     }
 
     // The plan with another rate and start.
-    pub fn changed(mut self, rate: u16, start: u16) -> Self
+    pub fn changed(self, rate: u16, start: u16) -> Self
         ensures { (result.rate ≡ rate) × (result.start ≡ start) }
     {
-        self.rate = rate;
-        self.start = start;
-        self
+        Self { rate, start }
     }
 
     // Whether the plan is in its range.
     pub fn good(self) -> bool
         ensures { T result ↔ InRange self }
     {
-        let rate = self.rate;
-        let start = self.start;
-        if rate < 1 {
-            return false;
-        }
-        if MOST_RATE < rate {
-            return false;
-        }
-        start < FRAME
+        (1..=MOST_RATE).contains(&self.rate) && self.start < FRAME
     }
 
     // The nominal slot k. 2250 * 29 still fits 16 bits.
+    #[tactic(auto, unfolding(crate::specs::Plan::nominal, crate::specs::Plan::along))]
     pub fn nominal(self, k: u16) -> u16
         requires { InRange self × (k < self.rate) }
         ensures { result ≡ nominal self k }
@@ -68,6 +53,7 @@ impl Plan {
     }
 
     // How far a window reaches to each side of its nominal slot.
+    #[tactic(auto, unfolding(crate::specs::Plan::half))]
     pub fn half(self) -> u16
         requires { InRange self }
         ensures { result ≡ half self }
@@ -76,6 +62,7 @@ impl Plan {
     }
 
     // The number of slots of a window.
+    #[tactic(auto, unfolding(crate::specs::Plan::slots))]
     pub fn slots(self) -> u16
         requires { InRange self }
         ensures { result ≡ slots self }
@@ -84,6 +71,7 @@ impl Plan {
     }
 
     // The first slot of the window of k.
+    #[tactic(auto, unfolding(crate::specs::Plan::first))]
     pub fn first(self, k: u16) -> u16
         requires { InRange self × (k < self.rate) }
         ensures { result ≡ first self k }
@@ -92,6 +80,7 @@ impl Plan {
     }
 
     // Whether a slot is one of the window of k.
+    #[tactic(auto, using(crate::proofs::Gaps::first_below))]
     fn covers(self, k: u16, slot: u16) -> bool
         requires { InRange self × (k < self.rate) × (slot < frame_slots) }
         ensures { T result ↔ InWindow self k slot }
@@ -101,17 +90,10 @@ impl Plan {
 
     // The window that a slot lies in, if it lies in one. It goes through the windows, at most 30: a quotient would have to be corrected for
     // its rounding.
-    pub fn window_of(self, slot: u16) -> Lies
+    pub fn window_of(self, slot: u16) -> Option<u16>
         requires { InRange self × (slot < frame_slots) }
         ensures { Tells self slot result }
     {
-        let mut k: u16 = 0;
-        while k < self.rate {
-            if self.covers(k, slot) {
-                return Lies::In(k);
-            }
-            k += 1;
-        }
-        Lies::Outside
+        (0..self.rate).find(|k| self.covers(*k, slot))
     }
 }

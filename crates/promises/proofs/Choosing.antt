@@ -22,7 +22,6 @@ use Rattle.candidates.proofs.Promised.{pick-is-candidate}
 use Rattle.choosing.specs.declared.Wanted.{Wanted}
 use Rattle.choosing.specs.Choosing.{ask_fits, view_of}
 use Rattle.choosing.specs.Choose.{drawn_in, chosen, choose_tests}
-use Rattle.choosing.proofs.Choosing.{not_taken}
 use Rattle.choosing.proofs.Chosen.{is_at}
 use Rattle.register.specs.State.{State, book_in, sources_in, settle, owned}
 use Rattle.register.proofs.Settling.{book_in-settle}
@@ -103,7 +102,7 @@ module _ (s : State) (a : Wanted) (f : Fine s) (held : AllHold (choose_tests s a
   picks : Picks (view_of s.reg s.book s.watch) (window_in s a) drawn (number_in (drawn_in s a))
   unfolding choose_tests
   picks =
-      let found = is_at (drawn_in s a) (not_taken _ _ _) (was-false held.1.1.1.1.0) (was-false held.1.1.1.1.1.0) in
+      let found = is_at _ _ _ (was-false held.1.1.1.1.0) (was-false held.1.1.1.1.1.0) in
       pick-is-candidate (view_of s.reg s.book s.watch) (window_in s a) a.draw drawn (number_in (drawn_in s a)) found
 
   known : a.k < (plan_in s).rate

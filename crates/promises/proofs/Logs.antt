@@ -9,10 +9,12 @@ use native.Mathlib.Omega.{arith}
 use borrow.Author.Tests.{eq-eqb}
 use lib.Dec.{eqb}
 use lib.ListN.{length, drop, length-drop, length-map}
+use Rattle.std.specs.Prelude.{Some}
+use Rattle.std.proofs.lemmas.Option.{same_Some}
 use Rattle.laws.specs.Counting.{count, sum as total}
 use Rattle.laws.specs.Loops.{upto}
 use Rattle.laws.specs.Tests.{pick}
-use Rattle.laws.proofs.Tests.{never, pick_is}
+use Rattle.laws.proofs.Tests.{pick_is}
 use Rattle.limits.specs.Limits.{slot_times, records}
 use Rattle.numbers.specs.declared.Refusal.TheVariants.{OtherLength, CutRecord, UnknownRecord}
 use Rattle.book.specs.declared.Counts.{Counts}
@@ -26,9 +28,9 @@ use Rattle.calls.specs.Calls.{begin, sum, called}
 use Rattle.logrecords.specs.LogRecords.{word_at, short_by}
 use Rattle.logrecords.specs.Pieces.{ends_inside, is_record}
 use Rattle.logrecords.proofs.Pieces.{event_in, piece_by, by_bytes}
-use Rattle.lines.specs.Lines.{line, sum_word, refused_line, sum_line, line_by, line_of}
+use Rattle.lines.specs.Lines.{line, sum_word, refused_line, sum_line, done_line, line_by, line_of}
 use Rattle.journal.specs.declared.Next.{Next}
-use Rattle.journal.specs.Journal.{Run, start_of, one, refusal, waiting, called_by, called_in, ran, next_whole, whole_run}
+use Rattle.journal.specs.Journal.{Run, start_of, one, refusal, the_sum, waiting, called_by, called_in, ran, next_whole, whole_run}
 use Rattle.journal.specs.Promises.{joined}
 use Rattle.journal.proofs.Pieces.{last_found}
 use Rattle.journal.proofs.Runs.{run_none, run_on, by-calls, whole-next, whole-over, whole-shrinks}
@@ -81,24 +83,21 @@ sum-keeps s bytes = pick_is (λ (a : Answered). a.state) (sized s) refl refl
 
 module _ (r : Run) (cs : List Call) (e : r.state ≡ after_all cs) where
   -- nothing is left
-  sums : next_whole r ≡ waiting true → Tells r cs []
-  unfolding waiting printed made
+  sums : next_whole r ≡ Some the_sum → Tells r cs []
+  unfolding printed made
   sums c =
-      let found = ap (λ (x : Next). x.found) c in
-      let last = ran (waiting true) r in
-      let ends : whole_run r ≡ last =
-      run_on next_whole whole-shrinks r found ∙ ap (λ (x : Next). whole_run (ran x r)) c ∙ run_none next_whole last (whole-over last refl) in
+      let last = ran the_sum r in
+      let ends : whole_run r ≡ last = run_on next_whole whole-shrinks r c ∙ run_none next_whole last (whole-over last refl) in
       record {
         lines = ap (λ (q : Run). q.lines) ends ∙ ap (λ (s : State). r.lines ++ line_to s summing) e;
         state = ap (λ (q : Run). q.state) ends ∙ sum-keeps r.state [] ∙ e;
       }
 
   -- one call, with its line, and then the others
-  goes : (x : Next) (l : List ℕ) (ds : List Call) (es fs : List Entry) → next_whole r ≡ x → x.found ≡ true → (ran x r).lines ≡ r.lines ++ l
+  goes : (x : Next) (l : List ℕ) (ds : List Call) (es fs : List Entry) → next_whole r ≡ Some x → (ran x r).lines ≡ r.lines ++ l
       → l ++ printed ds es ≡ printed cs fs → made ds es ≡ made cs fs → Tells (ran x r) ds es → Tells r cs fs
-  goes x l ds es fs c f prints says makes t =
-      let on : whole_run r ≡ whole_run (ran x r) =
-      run_on next_whole whole-shrinks r (ap (λ (y : Next). y.found) c ∙ f) ∙ ap (λ (y : Next). whole_run (ran y r)) c in
+  goes x l ds es fs c prints says makes t =
+      let on : whole_run r ≡ whole_run (ran x r) = run_on next_whole whole-shrinks r c in
       let end = line_to (after_all (made ds es)) summing in
       record {
         lines =
@@ -108,30 +107,30 @@ module _ (r : Run) (cs : List Call) (e : r.state ≡ after_all cs) where
         state = ap (λ (q : Run). q.state) on ∙ t.state ∙ ap after_all makes;
       }
 
-  module _ (told : (x : Next) → next_whole r ≡ x → Told (ran x r)) (m : ℕ) (h : length (drop (2 + word_at r.rest 0) r.rest) ≤ m) where
+  module _ (told : (x : Next) → next_whole r ≡ Some x → Told (ran x r)) (m : ℕ) (h : length (drop (2 + word_at r.rest 0) r.rest) ≤ m) where
     abbrev others : List Entry
     others = entries_of m (drop (2 + word_at r.rest 0) r.rest)
 
-    cut_off : next_whole r ≡ refusal (length r.rest) CutRecord → Tells r cs (unfit 40 ∷ [])
+    cut_off : next_whole r ≡ Some (refusal (length r.rest) CutRecord) → Tells r cs (unfit 40 ∷ [])
     unfolding printed made entries_of line_of line_by refused_line
     cut_off c =
-        goes (refusal (length r.rest) CutRecord) (refused_line CutRecord) cs [] (unfit 40 ∷ []) c refl refl refl refl
+        goes (refusal (length r.rest) CutRecord) (refused_line CutRecord) cs [] (unfit 40 ∷ []) c refl refl refl
         (told _ c 0 cs (omega (arith, length-drop (length r.rest) r.rest)) refl e)
 
-    no_record : next_whole r ≡ refusal (2 + word_at r.rest 0) UnknownRecord → Tells r cs (unfit 41 ∷ others)
+    no_record : next_whole r ≡ Some (refusal (2 + word_at r.rest 0) UnknownRecord) → Tells r cs (unfit 41 ∷ others)
     unfolding printed made line_of line_by refused_line
-    no_record c = goes (refusal (2 + word_at r.rest 0) UnknownRecord) (refused_line UnknownRecord) cs others (unfit 41 ∷ others) c refl refl refl refl (told _ c m cs h refl e)
+    no_record c = goes (refusal (2 + word_at r.rest 0) UnknownRecord) (refused_line UnknownRecord) cs others (unfit 41 ∷ others) c refl refl refl (told _ c m cs h refl e)
 
-    one-call : next_whole r ≡ one (event_in r.rest) → Tells r cs (asks (call_in r.rest) ∷ others)
+    one-call : next_whole r ≡ Some (one (event_in r.rest)) → Tells r cs (asks (call_in r.rest) ∷ others)
     unfolding printed made after_all after_call
     one-call c =
         let asked = call_in r.rest in
-        goes (one (event_in r.rest)) (line_to (after_all cs) asked) (asked ∷ cs) others (asks asked ∷ others) c refl
+        goes (one (event_in r.rest)) (line_to (after_all cs) asked) (asked ∷ cs) others (asks asked ∷ others) c
         (ap (λ (s : State). r.lines ++ line_to s asked) e) refl refl (told _ c m (asked ∷ cs) h refl (ap (λ (s : State). after_call s asked) e))
 
     by_tests : (none cut fits : Bool) → next_whole r ≡ called_by (piece_by none cut fits r.rest true) r.rest true
         → Tells r cs (entries_by none cut fits m r.rest)
-    unfolding short_by
+    unfolding short_by waiting
     by_tests true cut fits c = sums c
     by_tests false true fits c = cut_off c
     by_tests false false true c = one-call c
@@ -140,11 +139,11 @@ module _ (r : Run) (cs : List Call) (e : r.state ≡ after_all cs) where
 told : (r : Run) → Told r
 told =
     by-calls next_whole whole-shrinks Told
-    (λ r f n cs h o e. never (sym f ∙ ap (λ (x : Next). x.found) (whole-next r o) ∙ last_found r.rest))
-    (λ r f t n cs h o e.
+    (λ r f n cs h o e. last_found r.rest (sym (whole-next r o) ∙ f))
+    (λ r x f t n cs h o e.
     let log = r.rest in
     let (m, k, same) = entries_by_lem n log h in
-    let tests = by_tests r cs e (λ x c. subst (λ (y : Next). Told (ran y r)) c t) m k (eqb (length log) 0) (ends_inside log) (is_record log) in
+    let tests = by_tests r cs e (λ y c. subst (λ (z : Next). Told (ran z r)) (same_Some x y (sym f ∙ c)) t) m k (eqb (length log) 0) (ends_inside log) (is_record log) in
     subst (Tells r cs) (sym same) (tests (whole-next r o ∙ called-by log)))
 
 pub log-is-calls : LogIsCalls
@@ -182,7 +181,7 @@ module _ (cs : List Call) where
       sym (ap (λ (c : Counts). c.own) (counts-back left.book (tallies_in left.reg) counts many)) ∙ (tallies-are-counts cs).right ours (omega arith)
 
   sum-line : line_to left summing ≡ sum_of left.book (total (tallies_in left.reg))
-  unfolding line_of line_by sum_line
+  unfolding line_of line_by done_line sum_line
   sum-line =
       ap (λ (a : Answered). line_of (out_of a).answer) (summed left (fine-sized left (grown cs)))
       ∙ (λ i. line sum_word (free-is i ∷ own_is i ∷ total (tallies_in left.reg) ∷ all-make-the-whole cs i ∷ []))

@@ -16,15 +16,16 @@ use Rattle.laws.proofs.Tests.{both-no, either-false}
 use Rattle.plan.specs.Plan.{along, nominal, half, slots, floor_gap, ceil_gap, after, gap}
 use Rattle.message.specs.Signs.{signed_of}
 use Rattle.message.specs.State.{slots_of, distance_of}
+use Rattle.announcing.specs.declared.rows.Kind.TheVariants.{Mark}
 use Rattle.announcing.specs.Rows.{in_run, has_time, marks_time, frees_time}
 use Rattle.announcing.specs.Announce.{block, every_frame, announces}
 use Rattle.limits.specs.Limits.{frame_slots}
 use Rattle.distance.specs.Distance.{we_known}
-use Rattle.candidates.specs.declared.SlotState.{SlotState}
-use Rattle.candidates.specs.declared.SlotState.TheVariants.{Own, Earlier, Free, OwnUnknown, Base, Unknown, HeldOff, Far}
-use Rattle.candidates.specs.declared.Picked.TheVariants.{At, SentBack}
-use Rattle.candidates.specs.Window.{is_free, is_available, free, ahead, outranks, rank, candidate, candidates}
+use Rattle.std.specs.declared.result.Result.TheVariants.{Ok, Err}
+use Rattle.numbers.specs.declared.Refusal.TheVariants.{DrawBack}
+use Rattle.candidates.specs.Window.{at, is_free, is_available, free, ahead, outranks, rank, candidate, candidates}
 use Rattle.candidates.specs.Choice.{candidates_in, choice}
+use Rattle.candidates.specs.Slot.{SlotState, Own, Earlier, Free, OwnUnknown, Base, Unknown, HeldOff, Far}
 use Rattle.candidates.proofs.Draws.{picked-at, picked-back}
 use Rattle.candidates.proofs.Levels.{lost-cases}
 use Rattle.register.specs.State.{State}
@@ -78,26 +79,26 @@ module _ (s : State) (a : Wanted) (n : candidates_of s a ≡ 33) where
   taken : candidates_of s a * (65536 / candidates_of s a) ≡ 65505
   taken = ap (λ m. m * (65536 / m)) n
 
-  last : choice (view_in s) (window_in s a) 65504 ≡ At ((window_in s a).first + get_or (candidates_in (view_in s) (window_in s a)) 32 0) 33
+  last : choice (view_in s) (window_in s a) 65504 ≡ Ok (at ((window_in s a).first + get_or (candidates_in (view_in s) (window_in s a)) 32 0) 33)
   unfolding choice
   last =
       let cs = candidates_in (view_in s) (window_in s a) in
       let k : 65504 % length cs ≡ 32 = ap (λ m. 65504 % m) n in
       picked-at (window_in s a).first cs 65504 (omega (arith, n)) (omega (arith, taken))
-      ∙ ap (λ j. At ((window_in s a).first + get_or cs j 0) (length cs)) k ∙ ap (At ((window_in s a).first + get_or cs 32 0)) n
+      ∙ ap (λ j. Ok (at ((window_in s a).first + get_or cs j 0) (length cs))) k ∙ ap (λ m. Ok (at ((window_in s a).first + get_or cs 32 0) m)) n
 
-  back : choice (view_in s) (window_in s a) 65505 ≡ SentBack
+  back : choice (view_in s) (window_in s a) 65505 ≡ Err DrawBack
   unfolding choice
   back = picked-back (window_in s a).first (candidates_in (view_in s) (window_in s a)) 65505 (omega (arith, n)) (omega (arith, taken))
 
 holds5 : example5
 holds5 s a r n =
-    let at = said-of s a r 65504 ∙ ap (said_of s (with_draw a 65504)) (last s a n) in
+    let chosen = said-of s a r 65504 ∙ ap (said_of s (with_draw a 65504)) (last s a n) in
     let sent = said-of s a r 65505 ∙ ap (said_of s (with_draw a 65505)) (back s a n) in
     record {
-      taken = ap (λ (t : Said). t.number) at;
-      slot = ap (λ (t : Said). get_or t.values 0 0) at;
-      number = ap (λ (t : Said). get_or t.values 2 0) at;
+      taken = ap (λ (t : Said). t.number) chosen;
+      slot = ap (λ (t : Said). get_or t.values 0 0) chosen;
+      number = ap (λ (t : Said). get_or t.values 2 0) chosen;
       back = ap (λ (t : Said). t.number) sent;
     }
 
@@ -139,12 +140,12 @@ module _ (a n d : ℕ) where
   unfolding has_time in_run some
   block-time = let at : a + 0 + 0 ≡ a = omega arith in ap (λ (x : ℕ). both (leb x d) (ltb d (x + n))) at
 
-  kept-time : has_time (every_frame 1 1 true) d ≡ eqb d frame_slots
+  kept-time : has_time (every_frame 1 1 Mark) d ≡ eqb d frame_slots
   unfolding has_time in_run some
   kept-time = run-one frame_slots d
 
   kept_and : (z t : Bool) → both (leb a d) (ltb d (a + n)) ≡ t
-      → let rows = pick z (every_frame 1 1 true ∷ []) [] ++ (block a n ∷ []) in
+      → let rows = pick z (every_frame 1 1 Mark ∷ []) [] ++ (block a n ∷ []) in
       (marks_time rows d ≡ either (both z (eqb d frame_slots)) t) × (frees_time rows d ≡ false)
   kept_and true t e = (ap₂ either kept-time (either-false (has_time (block a n) d) ∙ block-time ∙ e), refl)
   kept_and false t e = (either-false (has_time (block a n) d) ∙ block-time ∙ e, refl)

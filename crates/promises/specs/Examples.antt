@@ -11,8 +11,7 @@ use Rattle.message.specs.Signs.{signed_of}
 use Rattle.announcing.specs.Rows.{marks_time, frees_time}
 use Rattle.announcing.specs.Announce.{announces}
 use Rattle.ship.specs.Ship.{known_place}
-use Rattle.candidates.specs.declared.SlotState.{SlotState}
-use Rattle.candidates.specs.declared.SlotState.TheVariants.{Free, Far}
+use Rattle.candidates.specs.Slot.{SlotState, Free, Far}
 use Rattle.candidates.specs.Window.{worth, candidates}
 use Rattle.candidates.specs.Choice.{candidates_in}
 use Rattle.register.specs.State.{State}

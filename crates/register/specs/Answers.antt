@@ -1,6 +1,6 @@
 -- What a call answers and leaves, and the numbers given back.
 -- Assumes nothing.
-use Rattle.std.specs.Prelude.{ℕ, Bool, List, [], ◌∷◌, map, eqb, length}
+use Rattle.std.specs.Prelude.{ℕ, Bool, List, [], ◌∷◌, map, eqb, length, Result, Ok, Err}
 use Rattle.laws.specs.Tests.{both}
 use Rattle.limits.specs.Limits.{slot_times, records}
 use Rattle.numbers.specs.declared.Refusal.{Refusal}
@@ -9,19 +9,19 @@ use Rattle.message.specs.State.{time_out_of, sub_row}
 use Rattle.walks.specs.Out.{Out, out}
 use Rattle.register.specs.declared.Reply.{Reply}
 use Rattle.register.specs.declared.Answer.{Answer}
-use Rattle.register.specs.declared.Answer.TheVariants.{Passed, Heard, Planned, Set, Chosen, Report, Refused, Begun, Sum}
+use Rattle.register.specs.declared.Answer.TheVariants.{Passed, Heard, Planned, Set, Chosen, Report, Begun, Sum}
 use Rattle.register.specs.State.{State}
 
 pub record Answered : Type 0 where
-  pub answer : Answer
+  pub answer : Result Answer Refusal
   pub state : State
 
 abbrev pub answered : Answer → State → Answered
-answered a s = record { answer = a; state = s }
+answered a s = record { answer = Ok a; state = s }
 
 -- a refusal: its number only, and the state as it was
 abbrev pub no : State → Refusal → Answered
-no s r = answered (Refused r) s
+no s r = record { answer = Err r; state = s }
 
 -- as a call gives it back: the reply, the register and the book
 abbrev pub out_of : Answered → Out Reply
@@ -38,17 +38,21 @@ abbrev pub did : List ℕ → Said
 did values = record { number = 0; values = values }
 
 -- a station that was heard: its source and its marks; an own slot: distance, slot number, candidates, marks replaced; a report: its time-out and the numbers of its
--- sub-message; the sum: the records' tallies together; a refusal: its number only
-abbrev pub said : Answer → Said
-said Passed = did []
-said (Heard m) = did (m.source ∷ m.marks ∷ [])
-said Planned = did []
-said Set = did []
-said (Chosen c) = did (c.distance ∷ c.slot ∷ c.candidates ∷ c.replaced ∷ [])
-said (Report m) = did (time_out_of m ∷ map (λ (f : ℕ × ℕ). f.1) (sub_row m))
-said (Refused r) = record { number = number_of r; values = [] }
-said Begun = did []
-said (Sum n) = did (n ∷ [])
+-- sub-message; the sum: the records' tallies together
+abbrev pub values_of : Answer → List ℕ
+values_of Passed = []
+values_of (Heard m) = m.source ∷ m.marks ∷ []
+values_of Planned = []
+values_of Set = []
+values_of (Chosen c) = c.distance ∷ c.slot ∷ c.candidates ∷ c.replaced ∷ []
+values_of (Report m) = time_out_of m ∷ map (λ (f : ℕ × ℕ). f.1) (sub_row m)
+values_of Begun = []
+values_of (Sum n) = n ∷ []
+
+-- a refusal: its number only
+abbrev pub said : Result Answer Refusal → Said
+said (Ok a) = did (values_of a)
+said (Err r) = record { number = number_of r; values = [] }
 
 abbrev pub given_number : Answered → ℕ
 given_number a = (said a.answer).number

@@ -1,12 +1,13 @@
 // The lent register and the state that the calls go on: who has lost a slot time and who has got it has its tally follow, in its own record. Promises: `lose` and
-// `win` change one record each, and that one as specs/Register.antt says; specs/State.antt has the state, and what becomes of it where something is done to
-// the book.
+// `win` change one record each, and that one as specs/Register.antt says; `run` does what is to be done at each slot time of a run, for whatever that is, and both
+// records follow; specs/State.antt has the state, and what becomes of it where something is done to the book.
 #![tactic(auto)]
 
-ghost use Rattle.std.specs.Prelude.{◌≡◌, length};
-ghost use Rattle.limits.specs.Limits.{records};
-ghost use Rattle.book.specs.Book.{record_at};
+ghost use Rattle.std.specs.Prelude.{◌≡◌, ◌<◌, ℕ, Bool, false, List, length};
+ghost use Rattle.limits.specs.Limits.{records, slot_times};
+ghost use Rattle.ship.specs.declared.Station.{Station as Record};
 ghost use Rattle.register.specs.Register.{less_by, more_by, lost_in, won_in};
+ghost use Rattle.register.specs.Runs.{MayStep, Keeps};
 
 use book::tally::{down, up};
 use book::{Handing, OWN, Watch, is_record, record_of};
@@ -49,30 +50,15 @@ pub enum Answer {
     Set,
     Chosen(Slot),
     Report(SubMessage),
-    Refused(Refusal),
     Begun,
     Sum(u32),
 }
 
-// The answer, and the watch after the call.
+// The answer, or the refusal, and the watch after the call.
 #[derive(Clone, Copy)]
 pub struct Reply {
     pub watch: Watch,
-    pub answer: Answer,
-}
-
-fn loser(t: Turn) -> usize
-    ensures { result ≡ record_at t.handing.old }
-{
-    let done = t.handing;
-    record_of(done.old)
-}
-
-fn winner(t: Turn) -> usize
-    ensures { result ≡ record_at t.handing.new }
-{
-    let done = t.handing;
-    record_of(done.new)
+    pub answer: Result<Answer, Refusal>,
 }
 
 // The record of the station that lost a slot time: one less, and held off where the slot time became ours.
@@ -80,36 +66,37 @@ fn winner(t: Turn) -> usize
 fn less(s: Station, t: Turn) -> Station
     ensures { result ≡ less_by s t }
 {
-    let done = t.handing;
-    if !is_record(done.old) {
+    if !is_record(t.handing.old) {
         return s;
     }
     let mut r = s;
     r.tally = down(s.tally);
-    if done.new == OWN {
+    if t.handing.new == OWN {
         r.hold = HOLD_OFF;
     }
     r
 }
 
 // The record of the station that got it: one more.
+#[tactic(auto, unfolding(crate::specs::Register::more_by))]
 fn more(s: Station, t: Turn) -> Station
     ensures { result ≡ more_by s t }
 {
-    let done = t.handing;
-    if !is_record(done.new) {
+    if !is_record(t.handing.new) {
         return s;
     }
-    let mut r = s;
-    r.tally = up(s.tally);
-    r
+    Station {
+        tally: up(s.tally),
+        ..s
+    }
 }
 
+// Two functions, and not one that is told who and what: with the change as a parameter neither clause was proved.
 pub fn lose(reg: &mut [Station], t: Turn)
     requires { length reg.old ≡ records }
     ensures { reg.new ≡ lost_in reg.old t }
 {
-    let k = loser(t);
+    let k = record_of(t.handing.old);
     reg[k] = less(reg[k], t);
 }
 
@@ -117,6 +104,43 @@ pub fn win(reg: &mut [Station], t: Turn)
     requires { length reg.old ≡ records }
     ensures { reg.new ≡ won_in reg.old t }
 {
-    let k = winner(t);
+    let k = record_of(t.handing.new);
     reg[k] = more(reg[k], t);
+}
+
+// What is done at each slot time of a run. What is known of the run between two of them holds again after each, once the records have followed.
+pub trait Turns {
+    ghost use Rattle.register.specs.declared.Turn.{Turn};
+
+    // of a run that began with a register and a book: where it stands, at a turn, with both as they are then
+    ghost stands: { Self → List Record → List ℕ → Turn → List Record → List ℕ → Type 0 };
+
+    ghost more: { Turn → Bool };
+
+    ghost left: { Turn → ℕ };
+
+    fn is_left(&self, t: Turn) -> bool
+        ensures { result ≡ more t };
+
+    fn step(&self, book: &mut [u16], t: Turn) -> Turn
+        requires { MayStep (stands self.now) more book.old t }
+        ensures keeps { Keeps (stands self.now) t book.old result book.new }
+        ensures nears { left result < left t };
+}
+
+// The run, from the turn t on: at each slot time what is to be done, and then the record that lost it and the one that got it follow.
+pub fn run<R: Turns>(reg: &mut [Station], book: &mut [u16], t: Turn, r: &R) -> Turn
+    requires many { length reg.old ≡ records }
+    requires size { length book.old ≡ slot_times }
+    requires begins { R.stands r.now reg.old book.old t reg.old book.old }
+    ensures stands { R.stands r.now reg.old book.old result reg.new book.new }
+    ensures done { R.more result ≡ false }
+{
+    let mut turn = t;
+    while r.is_left(turn) {
+        turn = r.step(book, turn);
+        lose(reg, turn);
+        win(reg, turn);
+    }
+    turn
 }

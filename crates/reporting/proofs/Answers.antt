@@ -1,19 +1,14 @@
--- The sub-message and the answers of a report, by what was found out.
+-- The sub-message of a report, by its time-out.
 -- Assumes nothing.
 use mathlib.Core.Path.{◌≡◌, sym, ap, ◌∙◌}
-use mathlib.Core.Bool.{true, false}
 use mathlib.Core.List.{List}
-use Prim.Native.Nat.{ℕ, ◌-◌, ◌/◌, ◌%◌, ◌<◌}
-use borrow.Author.Tests.{eq-eqb, ne_eqb, lt-leb}
-use lib.ListN.{get_or}
+use Prim.Native.Nat.{ℕ, ◌-◌, ◌/◌, ◌%◌}
+use borrow.Author.Tests.{eq-eqb, ne_eqb}
 use Rattle.limits.specs.Limits.{frame_slots}
-use Rattle.numbers.specs.declared.Refusal.TheVariants.{NotOwn}
 use Rattle.message.specs.declared.state.SubMessage.TheVariants.{Offset, Time, Slot, Stations}
 use Rattle.plan.specs.declared.Plan.{Plan}
-use Rattle.book.specs.Book.{ours, place}
 use Rattle.reporting.specs.declared.Time.{Time as Hour}
-use Rattle.reporting.specs.declared.Reported.TheVariants.{Done, Refused}
-use Rattle.reporting.specs.Report.{own_at, time_out, offset_of, sub_message, time_fits, reported}
+use Rattle.reporting.specs.Report.{offset_of, sub_message}
 
 module _ (slots : List ℕ) (stations present : ℕ) (p : Plan) (time : Hour) where
   -- ---- the sub-message with the time-out n
@@ -39,30 +34,3 @@ module _ (slots : List ℕ) (stations present : ℕ) (p : Plan) (time : Hour) wh
         say-stations v odd f =
             ap (λ (x : ℕ). Stations (record { pairs = (n - 3) / 2; number = x })) f
             ∙ sym (simp (ne_eqb n 0 some, ne_eqb n 1 more, ne_eqb (n % 2) 0 odd))
-
-  -- ---- the answer
-
-  pub report-36 : own_at slots present 0 ≡ false → Refused NotOwn ≡ reported slots stations present p time
-  unfolding reported
-  report-36 h = rw h
-
-  pub report-done : (n : ℕ) → own_at slots present 0 ≡ true → n ≡ time_out slots present
-      → Done (sub_message slots stations present p time n) ≡ reported slots stations present p time
-  unfolding reported
-  report-done n h k = rw (h, k)
-
--- ---- what the tests say
-
-module _ (time : Hour) where
-  pub late-hour : 23 < time.hour → time_fits time ≡ false
-  unfolding time_fits
-  late-hour l = rw (lt-leb time.hour 23 l)
-
-module _ (slots : List ℕ) (present at : ℕ) (e : at ≡ place present 0) where
-  pub other-now : (get_or slots at 0 ≡ ours → ⊥) → own_at slots present 0 ≡ false
-  unfolding own_at
-  other-now n = ne_eqb (get_or slots (place present 0) 0) ours (rw e at n)
-
-  pub own-now : get_or slots at 0 ≡ ours → own_at slots present 0 ≡ true
-  unfolding own_at
-  own-now h = eq-eqb (get_or slots (place present 0) 0) ours (rw e at h)

@@ -1,9 +1,10 @@
--- The loops of a report as they go: frames in a row, and the first own time from a distance on.
+-- What a report looks up: frames in a row, and the first own time from a distance on.
 -- Assumes nothing.
-use mathlib.Core.Path.{◌≡◌, refl, ap, ◌∙◌}
+use Rattle.std.specs.Prelude.{Option, Some, None, MatchOption, unwrap_or}
+use mathlib.Core.Path.{◌≡◌, refl, sym, ap, ◌∙◌}
 use mathlib.Core.Bool.{Bool, true, false}
 use mathlib.Core.List.{List}
-use Prim.Native.Nat.{ℕ, zero, suc, ◌+◌, ◌-◌, ◌*◌, ◌≤◌, ◌<◌}
+use Prim.Native.Nat.{ℕ, zero, suc, ◌+◌, ◌*◌, ◌≤◌, ◌<◌}
 use native.Mathlib.Numerals.{add-one}
 use native.Mathlib.Decide.{ℕ_discrete}
 use native.Mathlib.Omega.{arith}
@@ -62,70 +63,44 @@ module _ (slots : List ℕ) (present : ℕ) where
   unfolding time_out
   time-out-most = row-most frame_own 1 most_time_out
 
-  -- i frames gone through, all own, and those in a row of what is left
-  unfoldable pub frames_from : ℕ → ℕ
-  frames_from i = i + in_a_row frame_own (i + 1) (most_time_out - i)
+-- ---- what a search through frames or times finds
 
-  -- none gone through
-  pub frames-start : frames_from 0 ≡ time_out slots present
-  unfolding frames_from time_out
-  frames-start = omega arith
+module _ (p : ℕ → Bool) where
+  -- all of them pass
+  all-in-row : (i n : ℕ) → ((k : ℕ) → k < n → p (k + i) ≡ true) → n ≡ in_a_row p i n
+  all-in-row i zero all = refl
+  all-in-row i (suc n) all =
+      let here : p i ≡ true = ap p (omega arith) ∙ all 0 (omega arith) in
+      rw here (ap suc (all-in-row (suc i) n (λ k l. ap p (omega arith) ∙ all (suc k) (omega arith))))
 
-  -- all gone through
-  pub frames-end : frames_from most_time_out ≡ most_time_out
-  unfolding frames_from
-  frames-end = refl
+  -- the first that does not is found
+  row-until : (i n m : ℕ) → m < n → p (m + i) ≡ false → ((k : ℕ) → k < m → p (k + i) ≡ true) → m ≡ in_a_row p i n
+  row-until i zero m l e all = absurd (omega arith)
+  row-until i (suc n) zero l e all =
+      let here : p i ≡ false = ap p (omega arith) ∙ e in
+      rw here refl
+  row-until i (suc n) (suc m) l e all =
+      let here : p i ≡ true = ap p (omega arith) ∙ all 0 (omega arith) in
+      rw here (ap suc (row-until (suc i) n m (omega arith) (ap p (omega arith) ∙ e) (λ k l. ap p (omega arith) ∙ all (suc k) (omega arith))))
 
-  module _ (i : ℕ) (l : i < most_time_out) where
-    -- the frames left, by the next one
-    one_left : most_time_out - i ≡ suc (most_time_out - (i + 1))
-    one_left = omega arith
+  pub row-is : (i n : ℕ) (r : Option ℕ)
+      → MatchOption r ((k : ℕ) → 0 ≤ k → k < n → p (k + i) ≡ true) (λ m. (0 ≤ m) × (m < n) × (p (m + i) ≡ false) × ((k : ℕ) → 0 ≤ k → k < m → p (k + i) ≡ true))
+      → unwrap_or r n ≡ in_a_row p i n
+  row-is i n None all = all-in-row i n (λ k l. all k (omega arith) l)
+  row-is i n (Some m) one = row-until i n m one.1 one.2 (λ k l. one.3 k (omega arith) l)
 
-    -- one more that is own
-    pub frame-own : own_at slots present (frame_slots * (i + 1)) ≡ true → frames_from i ≡ frames_from (i + 1)
-    unfolding frames_from
-    frame-own e = rw one_left (omega (arith, row_more frame_own (i + 1) (most_time_out - (i + 1)) e))
-
-    -- one that is not
-    pub frame-other : own_at slots present (frame_slots * (i + 1)) ≡ false → frames_from i ≡ i
-    unfolding frames_from
-    frame-other e = rw one_left (omega (arith, row-stops frame_own (i + 1) (most_time_out - (i + 1)) e))
-
--- ---- the first own time
-
-module _ (slots : List ℕ) (present d n : ℕ) where
-  -- i of the n times gone through, none of them own
-  unfoldable pub own_from : ℕ → ℕ
-  own_from i = first_own slots present (d + i) (n - i)
-
-  -- none gone through
-  pub own-start : own_from 0 ≡ first_own slots present d n
-  unfolding own_from
-  own-start =
-      let e : d + 0 ≡ d = omega arith in
-      let f : n - 0 ≡ n = omega arith in
-      rw (e, f)
-
-  -- all gone through
-  pub own-end : (i : ℕ) → n ≤ i → own_from i ≡ 0
-  unfolding own_from
-  own-end i l =
-      let e : n - i ≡ 0 = omega arith in
-      rw e
-
-  module _ (i : ℕ) (l : i < n) where
-    -- the times left, by the next one
-    one_time : n - i ≡ suc (n - (i + 1))
-    one_time = omega arith
-
-    -- one that is own
-    pub own-here : own_at slots present (d + i) ≡ true → own_from i ≡ d + i
-    unfolding own_from
-    own-here e = rw (one_time, e)
-
-    -- one more that is not
-    pub own-later : own_at slots present (d + i) ≡ false → own_from i ≡ own_from (i + 1)
-    unfolding own_from
-    own-later e =
-        let next : suc (d + i) ≡ d + (i + 1) = omega arith in
-        rw (one_time, e) (ap (λ (j : ℕ). first_own slots present j (n - (i + 1))) next)
+-- the first of the n times from d ahead on, or none
+pub first-is : (slots : List ℕ) (present d n : ℕ) (r : Option ℕ)
+    → MatchOption r ((k : ℕ) → d ≤ k → k < d + n → own_at slots present k ≡ false)
+    (λ m. (d ≤ m) × (m < d + n) × (own_at slots present m ≡ true) × ((k : ℕ) → d ≤ k → k < m → own_at slots present k ≡ false))
+    → unwrap_or r 0 ≡ first_own slots present d n
+first-is slots present d zero None none = refl
+first-is slots present d (suc n) None none =
+    rw (none d (omega arith) (omega arith)) (first-is slots present (suc d) n None (λ k l m. none k (omega arith) (omega arith)))
+first-is slots present d zero (Some m) one = absurd (omega (arith, one.0, one.1))
+first-is slots present d (suc n) (Some m) one =
+    go (ℕ_discrete m d) (λ low. first-is slots present (suc d) n (Some m) (low, omega (arith, one.1), one.2, λ k l h. one.3 k (omega arith) h))
+  where
+    go : Dec (m ≡ d) → (d < m → m ≡ first_own slots present (suc d) n) → m ≡ first_own slots present d (suc n)
+    go (yes e) later = let here : own_at slots present d ≡ true = ap (own_at slots present) (sym e) ∙ one.2 in rw here e
+    go (no o) later = let low : d < m = omega (arith, one.0, o) in rw (one.3 d (omega arith) low) (later low)

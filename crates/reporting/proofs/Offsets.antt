@@ -1,6 +1,6 @@
 -- The offset of a report: the first own time of a stretch, and the one window that now lies in.
 -- Assumes nothing.
-use mathlib.Core.Path.{◌≡◌, refl, sym, ap, subst, ◌∙◌}
+use mathlib.Core.Path.{◌≡◌, refl, sym, ap, ◌∙◌}
 use mathlib.Core.Bool.{Bool, true, false}
 use mathlib.Core.List.{List}
 use Prim.Native.Nat.{ℕ, zero, suc, ◌+◌, ◌-◌, ◌%◌, ◌≤◌, ◌<◌}
@@ -10,9 +10,7 @@ use borrow.Author.Tests.{lt-ltb, ltb-true}
 use Rattle.laws.proofs.Tests.{not-true, pick-has}
 use Rattle.limits.specs.Limits.{frame_slots, widest}
 use Rattle.plan.specs.declared.Plan.{Plan}
-use Rattle.plan.specs.declared.Lies.{Lies}
-use Rattle.plan.specs.declared.Lies.TheVariants.{In, Outside}
-use Rattle.plan.specs.Plan.{InRange, InWindow, Tells, slots as window_slots, first, since}
+use Rattle.plan.specs.Plan.{InRange, InWindow, slots as window_slots, first, since}
 use Rattle.plan.proofs.Gaps.{half-most}
 use Rattle.plan.proofs.Promised.{no-slot-in-two}
 use Rattle.reporting.specs.Report.{own_at, first_own, lies_in, offset_in, offset_below, offset_of}
@@ -21,13 +19,6 @@ use Rattle.reporting.specs.Report.{own_at, first_own, lies_in, offset_in, offset
 pub slots-most : (p : Plan) → window_slots p ≤ widest
 unfolding window_slots
 slots-most p = omega (arith, half-most p)
-
--- what a told answer says of its window
-pub told_in : (p : Plan) (n k : ℕ) (r : Lies) → r ≡ In k → Tells p n r → InWindow p k n
-told_in p n k r e = subst (Tells p n) e
-
-pub told-out : (p : Plan) (n : ℕ) (r : Lies) → r ≡ Outside → Tells p n r → (k : ℕ) → InWindow p k n → ⊥
-told-out p n r e = subst (Tells p n) e
 
 -- ---- the window that now lies in
 
@@ -81,12 +72,11 @@ module _ (slots : List ℕ) (present : ℕ) (p : Plan) where
   unfolding offset_of
   offset-out none = below_none p.rate (λ k l h. none k (is-here k l h))
 
-  -- the answer, with the first slot of the window and the number of its slots as the code has them
-  pub offset-found : (k f n r : ℕ) → InRange p → InWindow p k (present % frame_slots) → f ≡ first p k → n ≡ window_slots p
-      → r ≡ first_own slots present (frame_slots - since f (present % frame_slots)) n → r ≡ offset_of slots present p
+  -- the answer, with the slots since the window's first one and the number of its slots as the code has them
+  pub offset-found : (k v n r : ℕ) → InRange p → InWindow p k (present % frame_slots) → v ≡ since (first p k) (present % frame_slots) → n ≡ window_slots p
+      → r ≡ first_own slots present (frame_slots - v) n → r ≡ offset_of slots present p
   unfolding offset_in
-  offset-found k f n r good w g h e =
-      e ∙ (λ i. first_own slots present (frame_slots - since (g i) (present % frame_slots)) (h i)) ∙ sym (offset-in k good w)
+  offset-found k v n r good w g h e = e ∙ (λ i. first_own slots present (frame_slots - g i) (h i)) ∙ sym (offset-in k good w)
 
 -- ---- the first own time of a stretch
 

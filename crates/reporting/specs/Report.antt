@@ -1,9 +1,10 @@
 -- The report of the present slot: time-out, sub-message, and what is given back.
 -- Assumes nothing.
-use Rattle.std.specs.Prelude.{ℕ, zero, suc, ◌+◌, ◌-◌, ◌*◌, ◌/◌, ◌%◌, Bool, List, [], ◌∷◌, eqb, leb, ltb, get_or}
+use Rattle.std.specs.Prelude.{ℕ, zero, suc, ◌+◌, ◌-◌, ◌*◌, ◌/◌, ◌%◌, Bool, List, [], ◌∷◌, eqb, leb, ltb, get_or, Result, Ok, Err}
 use Rattle.laws.specs.Tests.{pick, both}
 use Rattle.laws.specs.Counting.{one}
 use Rattle.limits.specs.Limits.{frame_slots, most_time_out}
+use Rattle.numbers.specs.declared.Refusal.{Refusal}
 use Rattle.numbers.specs.declared.Refusal.TheVariants.{NotOwn}
 use Rattle.message.specs.declared.state.SubMessage.{SubMessage}
 use Rattle.message.specs.declared.state.SubMessage.TheVariants.{Offset, Time, Slot, Stations}
@@ -11,8 +12,6 @@ use Rattle.plan.specs.declared.Plan.{Plan}
 use Rattle.plan.specs.Plan.{first, since, slots as window_slots}
 use Rattle.book.specs.Book.{ours, place}
 use Rattle.reporting.specs.declared.Time.{Time as Hour}
-use Rattle.reporting.specs.declared.Reported.{Reported}
-use Rattle.reporting.specs.declared.Reported.TheVariants.{Done, Refused}
 
 -- the time d ahead is ours
 unfoldable pub own_at : List ℕ → ℕ → ℕ → Bool
@@ -74,6 +73,6 @@ unfoldable pub time_fits : Hour → Bool
 time_fits time = both (leb time.hour 23) (leb time.minute 59)
 
 -- what `report` promises: 36 where now is not own
-unfoldable pub reported : List ℕ → ℕ → ℕ → Plan → Hour → Reported
+unfoldable pub reported : List ℕ → ℕ → ℕ → Plan → Hour → Result SubMessage Refusal
 reported slots stations present p time =
-    pick (own_at slots present 0) (Done (sub_message slots stations present p time (time_out slots present))) (Refused NotOwn)
+    pick (own_at slots present 0) (Ok (sub_message slots stations present p time (time_out slots present))) (Err NotOwn)

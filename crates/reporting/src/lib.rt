@@ -16,13 +16,6 @@ use message::state::{Clock, Counted, SubMessage};
 use numbers::Refusal;
 use plan::Plan;
 
-// The time-out follows from which sub-message it is.
-#[derive(Clone, Copy)]
-pub enum Reported {
-    Done(SubMessage),
-    Refused(Refusal),
-}
-
 // The hour and minute that the caller has.
 #[derive(Clone, Copy)]
 pub struct Time {
@@ -31,6 +24,7 @@ pub struct Time {
 }
 
 // What a report with the time-out n says.
+#[tactic(auto, unfolding(crate::specs::Report::sub_message))]
 fn sub_message(
     book: &[u16],
     stations: usize,
@@ -69,21 +63,24 @@ fn sub_message(
 pub fn fits(time: Time) -> bool
     ensures { result ≡ time_fits time }
 {
-    if time.hour > 23 {
-        return false;
-    }
-    time.minute <= 59
+    time.hour <= 23 && time.minute <= 59
 }
 
-// The report of the present slot, with so many stations received: 36.
-pub fn report(book: &[u16], stations: usize, present: usize, p: Plan, time: Time) -> Reported
+// The report of the present slot, with so many stations received: 36. The time-out follows from which sub-message it is.
+#[tactic(auto, unfolding(crate::specs::Report::reported, crate::specs::Report::own_at))]
+pub fn report(
+    book: &[u16],
+    stations: usize,
+    present: usize,
+    p: Plan,
+    time: Time,
+) -> Result<SubMessage, Refusal>
     requires { (length book.now ≡ slot_times) × (stations ≤ records) × InRange p }
     ensures { result ≡ reported book.now stations present p time }
 {
-    let at = place(present, 0);
-    if book[at] != OWN {
-        return Reported::Refused(Refusal::NotOwn);
+    if book[place(present, 0)] != OWN {
+        return Err(Refusal::NotOwn);
     }
     let n = frames_own(book, present);
-    Reported::Done(sub_message(book, stations, present, p, time, n))
+    Ok(sub_message(book, stations, present, p, time, n))
 }

@@ -1,17 +1,16 @@
 -- Our own ship and other stations: which sources and positions there are, and the call that sets our own.
 -- Assumes nothing.
-use Rattle.std.specs.Prelude.{ℕ, Bool, true, false, List, [], ◌∷◌, eqb, leb, ℤ, pos, negsuc, nat_abs}
+use Rattle.std.specs.Prelude.{ℕ, Bool, true, false, List, [], ◌∷◌, eqb, leb, ℤ, pos, negsuc, nat_abs, Result, Ok, Err}
 use Rattle.laws.specs.Tests.{both, pick, between, ladder}
+use Rattle.numbers.specs.declared.Refusal.{Refusal}
 use Rattle.numbers.specs.declared.Refusal.TheVariants.{BadSource, OutOfRange}
 use Rattle.numbers.specs.Numbers.{number_of}
 use Rattle.ship.specs.declared.Ship.{Ship}
 use Rattle.ship.specs.declared.Station.{Station}
-use Rattle.ship.specs.declared.Owned.{Owned}
-use Rattle.ship.specs.declared.Owned.TheVariants.{Done, Refused}
 
-abbrev pub owned_number : Owned → ℕ
-owned_number (Done s) = 0
-owned_number (Refused r) = number_of r
+abbrev pub owned_number : Result Ship Refusal → ℕ
+owned_number (Ok s) = 0
+owned_number (Err r) = number_of r
 
 -- a station can have this source
 unfoldable pub fair_source : ℕ → Bool
@@ -41,13 +40,13 @@ unknown_place (negsuc lat) (negsuc lon) = false
 unfoldable pub own_place : ℤ → ℤ → Bool
 own_place lat lon = pick (unknown_place lat lon) true (known_place lat lon)
 
-unfoldable pub own_tests : ℕ → ℤ → ℤ → List (Bool × Owned)
+unfoldable pub own_tests : ℕ → ℤ → ℤ → List (Bool × Result Ship Refusal)
 own_tests source lat lon =
-    (fair_source source, Refused BadSource)
-    ∷ (own_place lat lon, Refused OutOfRange)
+    (fair_source source, Err BadSource)
+    ∷ (own_place lat lon, Err OutOfRange)
     ∷ []
 
 -- what `own` promises
-unfoldable pub own_answer : ℕ → ℤ → ℤ → Owned
+unfoldable pub own_answer : ℕ → ℤ → ℤ → Result Ship Refusal
 unfolding own_tests
-own_answer source lat lon = ladder (own_tests source lat lon) (Done (record { source = source; latitude = lat; longitude = lon }))
+own_answer source lat lon = ladder (own_tests source lat lon) (Ok (record { source = source; latitude = lat; longitude = lon }))

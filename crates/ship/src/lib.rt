@@ -7,6 +7,11 @@ ghost use Rattle.ship.specs.Ship.{known_place, unknown_ship, blank, fair_source,
 
 use numbers::Refusal;
 
+// The position that says that it is unknown: 91 degrees north, 181 degrees east, in 1/10000 minute.
+const UNKNOWN_LATITUDE: i32 = 54600000;
+
+const UNKNOWN_LONGITUDE: i32 = 108600000;
+
 #[derive(Clone, Copy)]
 pub struct Ship {
     pub source: u32,
@@ -26,20 +31,14 @@ pub struct Station {
     pub hold: u16,
 }
 
-#[derive(Clone, Copy)]
-pub enum Owned {
-    Done(Ship),
-    Refused(Refusal),
-}
-
 // Source and position of a new ship: both unknown.
 pub fn unknown() -> Ship
     ensures { result ≡ unknown_ship }
 {
     Ship {
         source: 0,
-        latitude: 54600000,
-        longitude: 108600000,
+        latitude: UNKNOWN_LATITUDE,
+        longitude: UNKNOWN_LONGITUDE,
     }
 }
 
@@ -58,52 +57,41 @@ pub fn blank() -> Station
 }
 
 // Whether a station can have this source.
+#[tactic(auto, unfolding(crate::specs::Ship::fair_source))]
 pub fn fair(source: u32) -> bool
     ensures { result ≡ fair_source source }
 {
-    if source < 1 {
-        return false;
-    }
-    source <= 999999999
+    (1..=999999999).contains(&source)
 }
 
 // Whether a position is known.
+#[tactic(auto, unfolding(crate::specs::Ship::known_place))]
 pub fn known(latitude: i32, longitude: i32) -> bool
     ensures { result ≡ known_place latitude longitude }
 {
-    if latitude < -54000000 {
-        return false;
-    }
-    if latitude > 54000000 {
-        return false;
-    }
-    if longitude < -108000000 {
-        return false;
-    }
-    longitude <= 108000000
+    latitude.unsigned_abs() <= 54000000 && longitude.unsigned_abs() <= 108000000
 }
 
 // Whether a position can be our own: a known one, or the one that says unknown.
+#[tactic(auto, using(crate::proofs::Places::says_unknown, crate::proofs::Places::says_known))]
 fn stated(latitude: i32, longitude: i32) -> bool
     ensures { result ≡ own_place latitude longitude }
 {
-    if latitude == 54600000 {
-        return longitude == 108600000;
-    }
-    known(latitude, longitude)
+    latitude == UNKNOWN_LATITUDE && longitude == UNKNOWN_LONGITUDE || known(latitude, longitude)
 }
 
 // Own source and position: 21, 30. Any source may be taken, also one that has a record.
-pub fn own(source: u32, latitude: i32, longitude: i32) -> Owned
+#[tactic(auto, unfolding(crate::specs::Ship::own_answer, crate::specs::Ship::own_tests))]
+pub fn own(source: u32, latitude: i32, longitude: i32) -> Result<Ship, Refusal>
     ensures { result ≡ own_answer source latitude longitude }
 {
     if !fair(source) {
-        return Owned::Refused(Refusal::BadSource);
+        return Err(Refusal::BadSource);
     }
     if !stated(latitude, longitude) {
-        return Owned::Refused(Refusal::OutOfRange);
+        return Err(Refusal::OutOfRange);
     }
-    Owned::Done(Ship {
+    Ok(Ship {
         source,
         latitude,
         longitude,

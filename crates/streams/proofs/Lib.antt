@@ -1,3 +1,2 @@
 pub mod Between
 pub mod Keeping
-pub mod Waiting

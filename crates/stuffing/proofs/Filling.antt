@@ -7,7 +7,7 @@ use Rattle.bits.specs.Bits.{low_first}
 use Rattle.bits.proofs.Bits.{length-low_first}
 use Rattle.stuffing.specs.Stuff.{stuffed}
 use Rattle.stuffing.specs.Marks.{fives_of, up_to_lowest, filled}
-use Rattle.stuffing.specs.Sending.{left_of, zero_put, Stuffs}
+use Rattle.stuffing.specs.Filling.{left_of, zero_put, Stuffs}
 use Rattle.stuffing.specs.declared.marks.Marked.{Marked}
 use Rattle.stuffing.proofs.Stuffing.{stuffed-bound}
 use Rattle.stuffing.proofs.Marking.{mark, mark-bit, marks_of, fives-marks, lowest-none, lowest-small}

@@ -7,7 +7,7 @@ use Rattle.laws.proofs.Table.{all_below, below}
 use Rattle.bits.specs.Bits.{low_first, all_bits}
 use Rattle.bits.proofs.Bits.{bit-head, bit-tail}
 use Rattle.stuffing.specs.Stuff.{stuffed, left_after}
-use Rattle.stuffing.specs.Sending.{left_of}
+use Rattle.stuffing.specs.Filling.{left_of}
 use Rattle.stuffing.proofs.Marking.{half-shift}
 
 -- ---- a test at each four bits

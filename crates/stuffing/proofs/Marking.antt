@@ -107,12 +107,12 @@ lowest-even m e some =
     simp (ne_eqb m 0 (λ z. omega arith), ne_eqb (m / 2) 0 (λ z. omega arith)) (xor_step m (m - 1) ∙ rw (h, r, e) refl)
 
 -- as the code computes it
-pub lowest-is : (m w : ℕ) → m < 2 ^ 64 → w < 2 ^ 64 → (w + 1) % 2 ^ 64 ≡ m → bit_xor m w ≡ up_to_lowest m
+pub lowest-is : (m : ℕ) → m < 2 ^ 64 → bit_xor m ((m + (2 ^ 64 - 1)) % 2 ^ 64) ≡ up_to_lowest m
 unfolding up_to_lowest
-lowest-is zero w hm hw e = let f : w ≡ 2 ^ 64 - 1 = omega arith in xor_zero_l w ∙ f
-lowest-is (suc m) w hm hw e =
-    let f : w ≡ suc m - 1 = omega arith in
-    simp (ne_eqb (suc m) 0 (λ z. omega arith)) (ap (bit_xor (suc m)) f)
+lowest-is zero h = xor_zero_l _
+lowest-is (suc m) h =
+    let e : (suc m + (2 ^ 64 - 1)) % 2 ^ 64 ≡ suc m - 1 = omega arith in
+    simp (ne_eqb (suc m) 0 (λ z. omega arith)) (ap (bit_xor (suc m)) e)
 
 -- what it tells of whether there is a mark
 pub lowest-none : up_to_lowest 0 ≡ 2 ^ 64 - 1

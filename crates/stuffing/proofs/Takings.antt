@@ -1,6 +1,6 @@
 -- One step of taking 32 bits: what it leaves pending, what it stores, and that steps go on from each other.
 -- Assumes nothing.
-use Rattle.std.proofs.Common.{◌≡◌, ℕ, zero, suc, ◌+◌, ◌-◌, ◌*◌, ◌/◌, ◌%◌, ◌^◌, ◌<◌, ◌≤◌, Bool, true, false, List, [], ◌∷◌, ◌++◌, length, take, drop, sym, refl, ap, ◌∙◌, ap₂, append_assoc, lt_of_lt_of_le, mul-le-mul_right, suc-mul, mul_comm, arith, length-append, take-append-drop, length-take-le, take_at, pow_mono, pow-add, shl_exact, shr_lt, eq-eqb, ne_eqb}
+use Rattle.std.proofs.Common.{◌≡◌, ℕ, zero, suc, ◌+◌, ◌-◌, ◌*◌, ◌/◌, ◌%◌, ◌^◌, ◌<◌, ◌≤◌, Bool, true, false, List, [], ◌∷◌, ◌++◌, length, take, drop, sym, refl, ap, ◌∙◌, ap₂, append_assoc, mul-le-mul_right, suc-mul, mul_comm, arith, length-append, take-append-drop, length-take-le, take_at, pow-add, shl_exact, shr_lt, eq-eqb, ne_eqb}
 use lib.Bits.{bit_and, and_comm}
 use lib.Seq.{sets, sets-eq, length-sets, take-append-add, take-append-le}
 use Rattle.laws.proofs.Tests.{never}
@@ -45,10 +45,6 @@ joined_small h m a b small fits =
 
 shift-stays : (bits have gone : ℕ) → have < 32 → bits < 2 ^ (32 - gone) → bits * 2 ^ have % 2 ^ 64 ≡ bits * 2 ^ have
 shift-stays bits have gone under fits = shl_exact (32 - gone) have 64 fits (omega arith)
-
-pub sum_fits : (part bits have gone : ℕ) → part < 2 ^ have → have < 32 → bits < 2 ^ (32 - gone) → part + bits * 2 ^ have % 2 ^ 64 < 2 ^ 64
-sum_fits part bits have gone small under fits =
-    rw (shift-stays bits have gone under fits) (lt_of_lt_of_le (joined_small have (32 - gone) part bits small fits) (pow_mono {i = have + (32 - gone)} {j = 64} (omega arith)))
 
 -- ---- eight bytes stored, some of which count
 
@@ -206,9 +202,6 @@ module _ (v : ℕ) (s : Taking) (raw : List ℕ) (word : v < 2 ^ 32) (so : Sound
         }
 
 -- ---- step after step
-
-pub took-nothing : {raw : List ℕ} {s : Taking} → Sound s raw → Took [] s raw s raw
-took-nothing so = record { sound = so; more = omega arith; on = λ frame verdict rest g. g }
 
 pub took_more : {xs ys raw raw' raw'' : List ℕ} {s s' s'' : Taking} → Took xs s raw s' raw' → Took ys s' raw' s'' raw'' → Took (xs ++ ys) s raw s'' raw''
 took_more {xs} {ys} a b = record {

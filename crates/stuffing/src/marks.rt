@@ -23,5 +23,5 @@ pub fn fives(w: u64) -> u64
 pub fn up_to_lowest(m: u64) -> u64
     ensures { result ≡ up_to_lowest m }
 {
-    m ^ std::num::wrapping_sub_u64(m, 1)
+    m ^ m.wrapping_sub(1)
 }

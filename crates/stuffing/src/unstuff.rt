@@ -8,7 +8,7 @@ use crate::marks::{Marked, fives, up_to_lowest};
 use bits::store_eight;
 
 // Where taking bits stands: the last five, whether one that was put in was 1, the four bytes begun and how many bits they have, and how
-// many bytes are whole.
+// many bytes are whole. A flag and no Option, since taking a word does not fail: it goes on the same, and who asks at the end is told.
 #[derive(Clone, Copy)]
 pub struct Taking {
     pub tail: u64,
@@ -39,7 +39,8 @@ fn leave_out(s: Marked) -> Marked
     }
 }
 
-// 32 bits without those that are marked. One is left out without a test: mostly there is none or one, and either goes the same way.
+// 32 bits without those that are marked. One is left out without a test: mostly there is none or one, and either goes the same way. The loop
+// is that of `stuff_word` with another step: one for both would have to ask of the step why it comes to an end.
 fn unstuff_word(v: u64, m: u64) -> Marked
     requires { (v < 2 ^ 32) × (m < 2 ^ 32) × (bit_and v m ≡ 0) }
     ensures { Leaves v m result }
@@ -61,35 +62,27 @@ pub fn take_word(v: u64, raw: &mut [u8], s: Taking) -> Taking
     ensures { Took (low_first 32 v) s raw.old result raw.new }
 {
     let m = put_in(s.tail, v);
-    let tail = v / 0x8000000;
-    let have = s.have;
-    let count = s.count;
+    let on = Taking {
+        tail: v / 0x8000000,
+        ..s
+    };
     if v & m != 0 {
-        return Taking {
-            tail,
-            spoilt: true,
-            part: s.part,
-            have,
-            count,
-        };
+        return Taking { spoilt: true, ..on };
     }
     let x = unstuff_word(v, m);
-    let part = s.part + (x.bits << have);
-    if have < x.done {
+    let part = s.part + (x.bits << s.have);
+    if s.have < x.done {
         return Taking {
-            tail,
-            spoilt: s.spoilt,
             part,
-            have: have + 32 - x.done,
-            count,
+            have: s.have + 32 - x.done,
+            ..on
         };
     }
-    store_eight(raw, count, part);
+    store_eight(raw, s.count, part);
     Taking {
-        tail,
-        spoilt: s.spoilt,
         part: part / 0x100000000,
-        have: have - x.done,
-        count: count + 4,
+        have: s.have - x.done,
+        count: s.count + 4,
+        ..on
     }
 }

@@ -1,6 +1,7 @@
 -- What the C call of choosing promises: what its bytes ask, and how its answer is packed.
 -- Assumes nothing.
-use Rattle.std.specs.Prelude.{ℕ, ◌+◌, ◌*◌, ◌%◌, List, ℤ, get_or}
+use Rattle.std.specs.Prelude.{ℕ, ◌+◌, ◌*◌, ◌%◌, List, ℤ, get_or, Result, Ok, Err}
+use Rattle.numbers.specs.declared.Refusal.{Refusal}
 use Rattle.numbers.specs.Numbers.{number_of}
 use Rattle.message.specs.Signs.{signed_of}
 use Rattle.ship.specs.declared.Station.{Station}
@@ -9,7 +10,7 @@ use Rattle.walks.specs.Out.{Out, out}
 use Rattle.register.specs.declared.Slot.{Slot}
 use Rattle.register.specs.declared.Reply.{Reply}
 use Rattle.register.specs.declared.Answer.{Answer}
-use Rattle.register.specs.declared.Answer.TheVariants.{Passed, Heard, Planned, Set, Chosen, Report, Refused, Begun, Sum}
+use Rattle.register.specs.declared.Answer.TheVariants.{Passed, Heard, Planned, Set, Chosen, Report, Begun, Sum}
 use Rattle.register.specs.State.{state_of}
 use Rattle.register.specs.Answers.{out_of}
 use Rattle.choosing.specs.declared.Wanted.{Wanted}
@@ -45,16 +46,19 @@ ask_in bs draw = asked (watch_in bs) 0 (Choose (wanted_in bs draw))
 unfoldable pub slot_packed : Slot → ℕ
 slot_packed s = (((s.distance % 65536 * 65536 + s.slot % 65536) * 65536 + s.candidates % 65536) * 256 + s.replaced % 256) * 256
 
-unfoldable pub packed : Answer → ℕ
-packed Passed = 0
-packed (Heard m) = 0
-packed Planned = 0
-packed Set = 0
-packed (Chosen s) = slot_packed s
-packed (Report m) = 0
-packed (Refused r) = number_of r
-packed Begun = 0
-packed (Sum n) = 0
+abbrev pub done_packed : Answer → ℕ
+done_packed Passed = 0
+done_packed (Heard m) = 0
+done_packed Planned = 0
+done_packed Set = 0
+done_packed (Chosen s) = slot_packed s
+done_packed (Report m) = 0
+done_packed Begun = 0
+done_packed (Sum n) = 0
+
+unfoldable pub packed : Result Answer Refusal → ℕ
+packed (Ok a) = done_packed a
+packed (Err r) = number_of r
 
 abbrev pub packed_out : Out Reply → Out ℕ
 packed_out o = out (packed o.answer.answer) o.reg o.book

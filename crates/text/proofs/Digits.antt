@@ -1,16 +1,19 @@
--- The digits of a number from the last to the first: the loop of put_decimal, its start, a turn and its end.
+-- The digits of a number: by whether there is one, how many there are, and that they are those that the library prints.
 -- Assumes nothing.
-use mathlib.Core.Path.{◌≡◌, refl, sym, ap, ◌∙◌, subst, subst⁻¹}
-use mathlib.Core.List.{List, [], ◌∷◌, ◌++◌, append_assoc, append-nil}
-use Prim.Native.Nat.{ℕ, zero, suc, ◌-◌, ◌/◌, ◌%◌, ◌^◌, ◌≤◌, ◌<◌}
-use native.Mathlib.Nat.{not-suc-le-zero, le_of_suc-le-suc, pow-suc, pow-zero}
+use mathlib.Core.Path.{◌≡◌, sym, ap, ◌∙◌, subst⁻¹}
+use mathlib.Core.List.{List, [], ◌∷◌, ◌++◌}
+use Prim.Native.Nat.{ℕ, zero, suc, ◌/◌, ◌%◌, ◌^◌, ◌≤◌, ◌<◌}
+use native.Mathlib.Nat.{pow-suc, pow-zero}
 use native.Mathlib.Decide.{dec_lt}
 use native.Mathlib.Omega.{arith}
 use borrow.Author.Tests.{lt-ltb, le-ltb}
-use lib.ListN.{length, take, drop, set, length-set, length-drop, length-append, drop_of_length-le}
-use Rattle.limits.specs.Limits.{most_digits}
-use Rattle.text.specs.Text.{digit, decimal_in, decimal}
-use Rattle.text.proofs.Parts.{whole}
+use lib.IntN.{ℤ, pos, negsuc}
+use lib.ListN.{length, length-append}
+use mir.Syntax.{w32}
+use mir.Val.{SFits}
+use Rattle.std.specs.Fmt.{decimal as library, signed_decimal}
+use Rattle.std.proofs.lemmas.Fmt.{decimal_digit, decimal_step}
+use Rattle.text.specs.Text.{digit, decimal_in, decimal, signed}
 
 pub one-digit : (f n : ℕ) → n < 10 → decimal_in (suc f) n ≡ digit n ∷ []
 unfolding decimal_in
@@ -41,47 +44,16 @@ short (suc f) n =
 pub tenfold : (f n : ℕ) → n < 10 ^ suc f → n / 10 < 10 ^ f
 tenfold f n h = omega (arith, pow-suc 10 f)
 
-pub drop-set : (l : List ℕ) (i x : ℕ) → i < length l → drop i (set l i x) ≡ x ∷ drop (suc i) l
-drop-set [] i x h = absurd (not-suc-le-zero h)
-drop-set (y ∷ l) zero x h = refl
-drop-set (y ∷ l) (suc i) x h = drop-set l i x (le_of_suc-le-suc h)
+-- they are those of std, which the code takes from the kit
+pub printed : (f n : ℕ) → n < 10 ^ suc f → n < 18446744073709551616 → library n ≡ decimal_in (suc f) n
+printed zero n h k = let l : n < 10 = omega (arith, pow-suc 10 0, pow-zero 10) in decimal_digit n l ∙ sym (one-digit 0 n l)
+printed (suc f) n h k =
+    digits-cases (suc f) n (λ xs. library n ≡ xs) (λ l. decimal_digit n l)
+    (λ l. decimal_step n l k ∙ ap (◌++ (digit (n % 10) ∷ [])) (printed f (n / 10) (tenfold (suc f) n h) (omega arith)))
 
--- the digits of rest are still to come, up to place i; those after them stand there
-pub record Filling (n : ℕ) (text : List ℕ) (i rest : ℕ) : Type 0 where
-  pub long : length text ≡ most_digits
-  pub low : i < most_digits
-  pub fits : rest < 10 ^ suc i
-  pub same : decimal_in (suc i) rest ++ drop (suc i) text ≡ decimal n
+pub printed_decimal : (n : ℕ) → n < 18446744073709551616 → library n ≡ decimal n
+printed_decimal n k = printed 19 n (omega arith) k
 
-pub start : (n : ℕ) (text : List ℕ) → length text ≡ most_digits → n < 18446744073709551616 → Filling n text 19 n
-start n text l h = record { long = l; low = omega arith; fits = omega arith; same = ap (decimal n ++◌) (drop_of_length-le text {i = most_digits} (omega arith)) ∙ append-nil (decimal n) }
-
-turn_at : (n : ℕ) (text : List ℕ) (i rest : ℕ) → 10 ≤ rest → Filling n text (suc i) rest → Filling n (set text (suc i) (digit (rest % 10))) i (rest / 10)
-turn_at n text i rest h s =
-    record {
-      long = length-set text (suc i) (digit (rest % 10)) ∙ s.long;
-      low = omega arith;
-      fits = tenfold (suc i) rest s.fits;
-      same =
-          ap (decimal_in (suc i) (rest / 10) ++◌) (drop-set text (suc i) (digit (rest % 10)) (omega arith))
-          ∙ sym (append_assoc (decimal_in (suc i) (rest / 10)) (digit (rest % 10) ∷ []) (drop (suc (suc i)) text))
-          ∙ ap (◌++ drop (suc (suc i)) text) (sym (more-digits (suc i) rest h))
-          ∙ s.same;
-    }
-
--- a number of two digits is not at the first place
-pub above : (i rest : ℕ) → 10 ≤ rest → rest < 10 ^ suc i → 1 ≤ i
-above zero rest h f = absurd (omega (arith, pow-suc 10 0, pow-zero 10))
-above (suc i) rest h f = omega arith
-
-pub turn : (n : ℕ) (text : List ℕ) (i rest : ℕ) → 10 ≤ rest → Filling n text i rest → Filling n (set text i (digit (rest % 10))) (i - 1) (rest / 10)
-turn n text zero rest h s = absurd (not-suc-le-zero (above zero rest h s.fits))
-turn n text (suc i) rest h s = subst (λ (j : ℕ). Filling n (set text (suc i) (digit (rest % 10))) j (rest / 10)) (omega arith) (turn_at n text i rest h s)
-
-pub long-set : (n : ℕ) (text : List ℕ) (i rest x : ℕ) → Filling n text i rest → length (set text i x) ≡ most_digits
-long-set n text i rest x s = length-set text i x ∙ s.long
-
-pub end : (n : ℕ) (text : List ℕ) (i rest : ℕ) → rest < 10 → Filling n text i rest → take (most_digits - i) (drop i (set text i (digit rest))) ≡ decimal n
-end n text i rest h s =
-    whole (drop i (set text i (digit rest))) (most_digits - i) (omega (arith, length-drop i (set text i (digit rest)), long-set n text i rest (digit rest) s))
-    ∙ drop-set text i (digit rest) (omega arith) ∙ ap (◌++ drop (suc i) text) (sym (one-digit i rest h)) ∙ s.same
+pub printed_signed : (z : ℤ) → SFits w32 z → signed_decimal z ≡ signed z
+printed_signed (pos n) f = printed_decimal n (omega (arith, f.sfits))
+printed_signed (negsuc n) f = ap (45 ∷◌) (printed_decimal (suc n) (omega (arith, f.sfits)))

@@ -1,5 +1,4 @@
 pub mod Parts
 pub mod Digits
-pub mod Signs
 pub mod Rows
 pub mod Promised

@@ -9,7 +9,7 @@ use borrow.Rule.Slice.PartMut.{put_mid}
 use lib.ListN.{length, take, drop, set, length-append, length-drop, drop_of_length-le, take-append-drop}
 use lib.Seq.{drop-drop, take_at, drop_at, set_split}
 use Rattle.laws.specs.Lists.{over}
-use Rattle.limits.specs.Limits.{number_room}
+use Rattle.text.specs.Text.{Stands}
 
 pub length_over : (xs out : List ℕ) → length xs ≤ length out → length (over xs out) ≡ length out
 unfolding over
@@ -26,27 +26,13 @@ part-over : (text rest ys : List ℕ) (k : ℕ) → k ≡ length rest → ys ≡
 part-over text rest ys k e h = ap (ys ++◌) (none_after rest k e) ∙ append-nil ys ∙ h ∙ ap (over text) (whole rest k e)
 
 -- behind one byte
-pub after_one : (a : ℕ) (out text ys : List ℕ) → number_room ≤ length out
-    → ys ≡ over text (take (length (set out 0 a) - 1) (drop 1 (set out 0 a)))
-    → put_mid 1 (length (set out 0 a) - 1) (set out 0 a) ys ≡ over (a ∷ text) out
+pub after_one : (a : ℕ) (out text ys : List ℕ) → suc (length text) ≤ length out → ys ≡ text
+    → put_mid 1 (1 + length text - 1) (set out 0 a) ys ≡ over (a ∷ text) out
 unfolding over
 after_one a [] text ys h e = absurd (omega arith)
-after_one a (x ∷ out) text ys h e = ap (a ∷◌) (part-over text out ys (suc (length out) - 1) (omega arith) e)
-
--- behind two bytes
-pub after_two : (a b : ℕ) (out text ys : List ℕ) → (number_room + 1) ≤ length out
-    → ys ≡ over text (take (length (set (set out 0 a) 1 b) - 2) (drop 2 (set (set out 0 a) 1 b)))
-    → put_mid 2 (length (set (set out 0 a) 1 b) - 2) (set (set out 0 a) 1 b) ys ≡ over (a ∷ b ∷ text) out
-unfolding over
-after_two a b [] text ys h e = absurd (omega arith)
-after_two a b (x ∷ []) text ys h e = absurd (omega arith)
-after_two a b (x ∷ y ∷ out) text ys h e = ap (λ (l : List ℕ). a ∷ b ∷ l) (part-over text out ys (suc (suc (length out)) - 2) (omega arith) e)
+after_one a (x ∷ out) text ys h e = ap (a ∷◌) (ap (◌++ drop (1 + length text - 1) out) e ∙ ap (λ (k : ℕ). text ++ drop k out) (omega arith))
 
 -- ---- text after text
-
--- the text xs stands at the start of out', ends at `at`, and the rest is as in out
-abbrev pub Stands : List ℕ → List ℕ → List ℕ → ℕ → Type 0
-Stands xs out out' at = (at ≡ length xs) × (out' ≡ over xs out)
 
 pub none : (out : List ℕ) → Stands [] out out 0
 unfolding over

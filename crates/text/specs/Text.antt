@@ -1,7 +1,8 @@
 -- Numbers as text: decimal digits, a minus sign before a number below 0, and a row of numbers behind a word.
 -- Assumes nothing.
-use Rattle.std.specs.Prelude.{ℕ, zero, suc, ◌+◌, ◌/◌, ◌%◌, List, [], ◌∷◌, ◌++◌, ltb, ℤ, pos, negsuc}
+use Rattle.std.specs.Prelude.{ℕ, zero, suc, ◌+◌, ◌/◌, ◌%◌, ◌≡◌, List, [], ◌∷◌, ◌++◌, length, ltb, ℤ, pos, negsuc}
 use Rattle.laws.specs.Tests.{pick}
+use Rattle.laws.specs.Lists.{over}
 use Rattle.limits.specs.Limits.{most_digits}
 
 -- the code of the digit d
@@ -33,3 +34,7 @@ spaced_all (n ∷ ns) = spaced (decimal n) ++ spaced_all ns
 -- a word and the numbers behind it
 unfoldable pub row : List ℕ → List ℕ → List ℕ
 row word numbers = word ++ spaced_all numbers
+
+-- the text stands at the start of out', which is else as out is, and ends at `at`
+abbrev pub Stands : List ℕ → List ℕ → List ℕ → ℕ → Type 0
+Stands text out out' at = (at ≡ length text) × (out' ≡ over text out)

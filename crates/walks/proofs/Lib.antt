@@ -1,4 +1,3 @@
 pub mod Folds
-pub mod Sweeps
 pub mod Seeks
 pub mod Changes

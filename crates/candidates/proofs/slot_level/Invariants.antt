@@ -1,4 +1,4 @@
-use Rattle.std.proofs.Common.{◌-◌, ◌≡◌, ◌≤◌, min}
+use Rattle.std.proofs.Common.{◌≡◌, min}
 use Rattle.distance.specs.Distance.{top}
 use Rattle.walks.specs.Folded.{folded}
 use Rattle.candidates.specs.Scanning.{level_at, holder_in}
@@ -6,10 +6,4 @@ use Rattle.candidates.proofs.slot_level.Given as goal
 
 -- so far the lowest level of the first i holders
 abbrev pub invariant-loop-i : goal.invariant-loop-i
-invariant-loop-i l = record {
-  so_far : l.low ≡ folded top (holder_in l.book l.x) (λ h. level_at l.reg h l.x) (λ low h k i. min low k) l.i;
-  within : l.i ≤ l.n;
-}
-
-abbrev pub decreases-loop-i : goal.decreases-loop-i
-decreases-loop-i l = l.n - l.i
+invariant-loop-i l = l.low ≡ folded top (holder_in l.book l.x) (λ h. level_at l.reg h l.x) (λ low h k i. min low k) l.i

@@ -1,19 +1,16 @@
--- The record of the definition is the one that the two seeks find.
-use Rattle.std.proofs.Common.{sym, ◌∙◌, ap}
-use Prim.Native.Nat.{ℕ}
-use lib.Dec.{ltb}
+use Rattle.std.proofs.Common.{◌≡◌, rules, ap, ◌∙◌, ℕ}
+use Rattle.std.specs.Prelude.{Option}
+use Rattle.std.specs.Option.{unwrap_or}
 use Rattle.limits.specs.Limits.{records}
-use Rattle.hearing.proofs.Finding.{record-its, record-idle}
+use Rattle.hearing.proofs.Finding.{record_found}
+use lib.Dec.{eqb}
+use Rattle.std.specs.List.{position}
+use Rattle.std.specs.Option.{option_or}
+use Rattle.ship.specs.declared.Station.{Station}
 use Rattle.hearing.proofs.find.Goals as goal
 
-pub returns-then-is_there : goal.returns-then-is_there
-returns-then-is_there c =
-    c.first_its-k.ensures
-    ∙ record-its c.args.reg.now c.args.q.telling.source c.requires
-    (ap (λ (n : ℕ). ltb n records) (sym c.first_its-k.ensures) ∙ sym c.is_there.ensures ∙ c.if-is_there.true)
-
-pub returns : goal.returns
-returns c =
-    c.first_idle.ensures
-    ∙ record-idle c.args.reg.now c.args.q.telling.source c.requires
-    (ap (λ (n : ℕ). ltb n records) (sym c.first_its-k.ensures) ∙ sym c.is_there.ensures ∙ c.if-is_there.false)
+pub returns-clause-value : goal.returns-clause-value
+returns-clause-value c =
+    let reg = c.args.reg.now in
+    let found : c.or_else.result ≡ option_or (position (λ (s : Station). eqb s.source c.args.q.telling.source) reg) (position (λ (s : Station). eqb s.tally 0) reg) = search rules in
+    ap (λ (r : Option ℕ). unwrap_or r records) found ∙ record_found reg c.args.q.telling.source c.requires

@@ -1,23 +1,17 @@
--- Before the first time, one time more, and the end.
-use Rattle.std.proofs.Common.{sym, ◌∙◌, ltb-true}
-use Rattle.hearing.proofs.Runs.{marks-begin, few, marks-more, marks-end}
+use Rattle.std.proofs.Common.{sym, ap, ap₂, ◌∙◌}
+use Rattle.announcing.specs.Rows.{held_of}
+use Rattle.register.specs.State.{State}
+use Rattle.hearing.specs.Booking.{holder_of, reply_of}
 use Rattle.hearing.proofs.mark_times.Goals as goal
 
-pub loop-book-init : goal.loop-book-init
-loop-book-init c = marks-begin _ c.requires.marks c.first_mark-t.ensures
-
-pub mark_one-t-requires : goal.mark_one-t-requires
-mark_one-t-requires c =
-    let e = sym c.some_left.ensures ∙ c.loop-book-test.true in (
-      record { size = c.loop-book.auto.book ∙ c.requires.size; inside = c.requires.inside; below = ltb-true _ _ e },
-      few c.loop-book.invariant e,
-    )
-
-pub loop-book-preserved : goal.loop-book-preserved
-loop-book-preserved c =
-    marks-more c.loop-book.invariant (sym c.some_left.ensures ∙ c.loop-book-test.true) (c.loop-book.auto.reg ∙ c.requires.register)
-    _ _ c.mark_one-t.ensures _ _ c.lose.ensures c.win.ensures
-
 pub returns : goal.returns
+unfolding held_of
 returns c =
-    marks-end c.loop-book.invariant (sym c.some_left.ensures ∙ c.loop-book-test.false) (c.loop-book.auto.reg ∙ c.requires.register) _ c.marked.ensures
+    let b = c.args.b in
+    let e = sym c.book_all-t.ensures.state in
+    record {
+      answers = ap₂ (reply_of b) (c.watch_after.ensures ∙ ap (λ (s : State). s.watch) e)
+          (c.book_all-t.ensures.counted ∙ ap (λ (s : State). held_of b.watch.present (holder_of b) s.book b.rows) e);
+      leaves = ap (λ (s : State). s.reg) e;
+      writes = ap (λ (s : State). s.book) e;
+    }

@@ -1,10 +1,11 @@
-use mathlib.Core.Path.{ap, subst, ◌∙◌}
-use Rattle.message.specs.Sheet.{Heads}
-use Rattle.message.specs.declared.Received.TheVariants.{Message as Got}
+use mathlib.Core.Path.{ap, ◌∙◌}
+use Rattle.std.specs.Prelude.{Ok}
+use Rattle.message.specs.Message.{read_answer}
 use Rattle.message.proofs.Readings.{read-good}
 use Rattle.message.proofs.read.Goals as goal
 
-pub returns-in-Known : goal.returns-in-Known
-returns-in-Known c =
-    let h = subst (Heads c.args.bytes.now) c.in-Known.is c.head_of-first.ensures in
-    ap Got c.message_in.ensures ∙ read-good _ h.0 h.1
+pub returns : goal.returns
+returns c =
+    let head = c.in_ok-head_of.field-0 in
+    let h = c.in_ok-head_of.ensures in
+    ap Ok c.message_in.ensures ∙ read-good _ head.whole (rw head.told at h.1) ∙ ap read_answer h.0

@@ -1,3 +1,4 @@
+use Rattle.std.proofs.Common.{rules}
 use native.Mathlib.Omega.{arith}
 use lib.ListN.{length}
 use Rattle.bits.proofs.Words.{Holds, new-fits, put_is}
@@ -11,4 +12,4 @@ overflow_add-all c =
 pub returns : goal.returns
 returns c =
     let here : Holds (length c.args.out.now) c.window-s.result c.args.at c.args.width = omega arith in
-    put_is _ (λ i. (c.slice_known-1.given i).fits) _ _ _ here _ c.requires.5 c.word_at-all.ensures c.put_word.ensures (λ i. (c.type_inv.out i).fits)
+    put_is _ (λ i. search rules) _ _ _ here _ c.requires.5 c.word_at-all.ensures c.put_word.ensures (λ i. (c.type_inv.out i).fits)

@@ -1,8 +1,8 @@
-use mathlib.Core.Path.{ap, ◌∙◌}
-use lib.Seq.{sets}
-use Rattle.bits.specs.Bits.{eight_of}
-use Rattle.bits.proofs.Words.{swap_bytes}
+use mathlib.Core.Path.{refl, ◌∙◌}
+use Rattle.bits.specs.Field.{bytes_of_word}
+use Rattle.bits.proofs.Spreading.{part-put}
 use Rattle.bits.proofs.field.put_word.Goals as goal
 
 pub returns : goal.returns
-returns c = c.store_eight.ensures ∙ ap (sets _ _) (ap eight_of c.swapped.ensures ∙ swap_bytes _)
+unfolding bytes_of_word
+returns c = part-put _ _ 8 c.requires (c.copy_from_slice.ensures.after ∙ c.to_be_bytes.ensures) refl

@@ -1,7 +1,11 @@
+-- The table is the list that `turned` fills, by computation of its 256 entries.
+use mathlib.Core.Path.{refl}
+use native.Mathlib.Omega.{arith}
+use Rattle.laws.specs.Tables.{byte_table}
 use Rattle.laws.proofs.Table.{byte-entry}
 use Rattle.bits.specs.Bits.{turned}
-use borrow.Author.Rules.{rules}
 use Rattle.bits.proofs.turn.turn.Goals as goal
 
 pub returns : goal.returns
-returns c = byte-entry turned c.args.b c.requires (search rules)
+unfolding byte_table turned
+returns c = byte-entry turned c.args.b refl (omega (arith, c.ranges.b))

@@ -5,16 +5,16 @@ use Rattle.board.proofs.messages.qs_message_write.Goals as goal
 
 pub returns-then-message-lt-MESSAGE : goal.returns-then-message-lt-MESSAGE
 unfolding write_out
-returns-then-message-lt-MESSAGE c = refused _ _ _ (said-room _ _ c.if-message-lt-MESSAGE.true) c.number.ensures refl
+returns-then-message-lt-MESSAGE c = refused _ _ _ (said-room _ _ c.if-message-lt-MESSAGE.true) c.into.ensures refl
 
 pub returns-then-fields-lt-LIST_PLACES : goal.returns-then-fields-lt-LIST_PLACES
 unfolding write_out
-returns-then-fields-lt-LIST_PLACES c = refused _ _ _ (said-short _ _ c.if-message-lt-MESSAGE.false c.if-fields-lt-LIST_PLACES.true) c.number-then-fields-lt-LIST_PLACES.ensures refl
+returns-then-fields-lt-LIST_PLACES c = refused _ _ _ (said-short _ _ c.if-message-lt-MESSAGE.false c.if-fields-lt-LIST_PLACES.true) c.into-then-fields-lt-LIST_PLACES.ensures refl
 
-pub returns-in-Done : goal.returns-in-Done
-returns-in-Done c =
-    handed _ _ c.if-message-lt-MESSAGE.false c.if-fields-lt-LIST_PLACES.false c.message_in.ensures c.write-answer.ensures c.in-Done.is refl
+pub returns-in-Ok : goal.returns-in-Ok
+returns-in-Ok c =
+    handed _ _ c.if-message-lt-MESSAGE.false c.if-fields-lt-LIST_PLACES.false c.message_in.ensures c.write.ensures c.in-Ok.is refl
 
-pub returns-in-Refused : goal.returns-in-Refused
-returns-in-Refused c =
-    handed _ _ c.if-message-lt-MESSAGE.false c.if-fields-lt-LIST_PLACES.false c.message_in.ensures c.write-answer.ensures c.in-Refused.is c.number-in-Refused.ensures
+pub returns-in-Err : goal.returns-in-Err
+returns-in-Err c =
+    handed _ _ c.if-message-lt-MESSAGE.false c.if-fields-lt-LIST_PLACES.false c.message_in.ensures c.write.ensures c.in-Err.is c.from.ensures

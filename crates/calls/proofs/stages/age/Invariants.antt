@@ -1,12 +1,9 @@
-use Rattle.std.proofs.Common.{◌≡◌, ◌-◌, length}
+use Rattle.std.proofs.Common.{◌≡◌, ◌-◌}
 use Rattle.ship.specs.declared.Station.{Station}
+use Rattle.register.specs.State.{with_hold}
 use Rattle.walks.proofs.Changes.{upto}
-use Rattle.calls.specs.Stages.{aged_record}
 use Rattle.calls.proofs.stages.age.Given as goal
 
--- the first records are older, and the others as they were
-abbrev pub invariant-loop-i : goal.invariant-loop-i
-invariant-loop-i l = l.reg ≡ upto (λ (s : Station). aged_record s l.c) l.i l.fn.reg
-
-abbrev pub decreases-loop-i : goal.decreases-loop-i
-decreases-loop-i l = length l.reg - l.i
+-- so many records are older
+abbrev pub invariant-loop-s : goal.invariant-loop-s
+invariant-loop-s l = l.reg ≡ upto (λ (s : Station). with_hold s (s.hold - l.passes)) l.s-index l.fn.reg

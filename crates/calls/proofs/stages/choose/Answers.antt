@@ -1,9 +1,8 @@
-use Rattle.calls.proofs.Joining.{owns-fits, chosen_is}
+use Rattle.calls.proofs.Joining.{ends_at, owns-drawn, chosen_is}
 use Rattle.calls.proofs.stages.choose.Goals as goal
 
 pub own_frames-requires : goal.own_frames-requires
-own_frames-requires c =
-    owns-fits c.args.c c.args.reg.now c.args.book.now c.seek_slot-o.result c.seek_slot-o.new.reg c.seek_slot-o.new.book c.requires.0.sized c.seek_slot-o.ensures
+own_frames-requires c = let a = c.args in owns-drawn a.reg.now a.book.now a.watch a.a c.requires _ c.draw_slot-drawn.ensures
 
 pub returns : goal.returns
-returns c = chosen_is c.args.c c.args.reg.now c.args.book.now c.seek_slot-o.result _ _ _ _ _ c.requires.0 c.requires.1 c.seek_slot-o.ensures c.own_frames.ensures
+returns c = let a = c.args in ends_at (chosen_is a.reg.now a.book.now a.watch a.a c.requires _ c.draw_slot-drawn.ensures) c.own_frames.ensures

@@ -2,7 +2,7 @@
 -- Assumes nothing.
 use mathlib.Core.Path.{◌≡◌}
 use mathlib.Core.Bool.{true}
-use Prim.Native.Nat.{◌+◌, ◌-◌, ◌*◌, ◌≤◌}
+use Prim.Native.Nat.{◌+◌, ◌*◌}
 use Rattle.laws.specs.Ranges.{every}
 use Rattle.limits.specs.Limits.{frame_slots}
 use Rattle.book.specs.Book.{place}
@@ -10,7 +10,4 @@ use Rattle.candidates.specs.Slot.{frame, is_none}
 use Rattle.candidates.proofs.slot.free_at.Given as goal
 
 abbrev pub invariant-loop-i : goal.invariant-loop-i
-invariant-loop-i l = (l.i ≤ l.m + 1) × (l.p ≡ place l.present (l.at + frame_slots * l.i)) × (every (λ j. is_none (frame l.book l.present l.at j)) l.i ≡ true)
-
-abbrev pub decreases-loop-i : goal.decreases-loop-i
-decreases-loop-i l = l.m + 1 - l.i
+invariant-loop-i l = (l.p ≡ place l.present (l.at + frame_slots * l._i)) × (every (λ j. is_none (frame l.book l.present l.at j)) l._i ≡ true)

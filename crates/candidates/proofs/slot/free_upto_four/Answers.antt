@@ -1,29 +1,22 @@
--- `candidates::slot::free_upto_four` meets its contract: the loop has counted the slots before, and stops at four.
+-- `candidates::slot::free_upto_four` meets its contract: the chain gives the free slots, at most four of them.
 -- Assumes nothing.
-use native.Mathlib.Omega.{arith}
-use Rattle.laws.proofs.Ranges.{many-none, many_more}
-use Rattle.laws.proofs.Sums.{bit_le}
-use Rattle.candidates.proofs.Slots.{four-free, few-free}
-use borrow.Author.Rules.{rules}
+use Rattle.std.proofs.Common.{ap, ◌∙◌, ℕ, List, length, take, min, arith, rules, length-take}
+use borrow.Author.Tests.{tests}
+use Rattle.std.proofs.lemmas.Iterator.{YieldsList-from_range, YieldsList-from_take}
+use Rattle.std.proofs.lemmas.Iterator.Consumers.{YieldsList-from_filter, YieldsList-at, count_from_yields_List}
+use Rattle.laws.proofs.Those.{count-those}
+use Rattle.candidates.specs.Scanning.{free_in, free_upto_four}
+use Rattle.candidates.proofs.Listing.{filter-those}
 use Rattle.candidates.proofs.slot.free_upto_four.Goals as goal
 
-pub loop-i-init : goal.loop-i-init
-loop-i-init c = (search rules, search rules, many-none _)
-
-pub overflow_add-n : goal.overflow_add-n
-overflow_add-n c = omega (arith, c.loop-i.invariant.1, bit_le _ _ c.free_bit-n.ensures)
-
-pub returns-then-n-eq4 : goal.returns-then-n-eq4
-returns-then-n-eq4 c =
-    let l = c.loop-i in
-    four-free _ _ l.i _ (many_more _ l.i _ _ l.invariant.2 c.free_bit-n.ensures) c.loop-i-test.true c.if-n-eq4.true
-
-pub loop-i-preserved : goal.loop-i-preserved
-loop-i-preserved c =
-    let l = c.loop-i in
-    (search rules, omega (arith, l.invariant.1, bit_le _ _ c.free_bit-n.ensures, c.if-n-eq4.false), many_more _ l.i _ _ l.invariant.2 c.free_bit-n.ensures)
-
 pub returns : goal.returns
+unfolding free_upto_four
 returns c =
-    let l = c.loop-i in
-    few-free _ _ l.i _ l.invariant.2 (omega (arith, l.invariant.0, c.loop-i-test.false)) l.invariant.1
+    let a = c.args in
+    count_from_yields_List _ _ c.count.ensures.ran
+    (YieldsList-from_take 4 (YieldsList-at c.take.ensures.source
+    (YieldsList-from_filter _ (free_in a.book.now a.w) (YieldsList-from_range 0 a.w.width a.w.width c.filter.ensures.source (omega arith))
+    c.filter.ensures.closure (λ x b q k. search (rules, tests)))) c.take.ensures.count)
+    ∙ ap (λ (l : List ℕ). length (take 4 l)) (filter-those (free_in a.book.now a.w) 0 a.w.width)
+    ∙ length-take 4 _
+    ∙ ap (min 4) (count-those (free_in a.book.now a.w) a.w.width)

@@ -1,36 +1,21 @@
-use mathlib.Core.Path.{◌≡◌, sym, ap, ◌∙◌}
-use Prim.Native.Nat.{◌+◌}
-use native.Mathlib.Omega.{arith}
-use Rattle.laws.specs.Ranges.{some}
-use Rattle.laws.proofs.Ranges.{some-none, some-miss, some-hit}
+-- `choosing::window::any_own` meets its contract: the chain asks each slot whether it is ours.
+-- Assumes nothing.
+use Rattle.std.proofs.Common.{ℕ, ◌≡◌, ◌+◌, get_or, refl, arith, rules}
+use borrow.Author.Tests.{tests}
+use Rattle.std.proofs.lemmas.Iterator.{YieldsList-from_range, cases_from_any}
+use Rattle.book.specs.Book.{ours, place}
 use Rattle.candidates.specs.Slot.{is_own, holder_at}
+use Rattle.candidates.proofs.Listing.{some-told}
 use Rattle.choosing.specs.Choosing.{any_own}
 use Rattle.choosing.proofs.Meaning.{own-there, other-there}
-use borrow.Author.Rules.{rules}
 use Rattle.choosing.proofs.window.any_own.Goals as goal
-
-pub loop-i-init : goal.loop-i-init
-loop-i-init c = (search rules, some-none _)
-
-pub returns-then-book-at-eq-OWN : goal.returns-then-book-at-eq-OWN
-unfolding any_own
-returns-then-book-at-eq-OWN c =
-    let a = c.args in
-    some-hit (λ j. is_own (holder_at a.book.now a.v.present (a.v.first + j))) c.loop-i.i a.v.width (omega arith)
-    (own-there _ _ _ _ c.place-at.ensures c.if-book-at-eq-OWN.true)
-
-pub loop-i-preserved : goal.loop-i-preserved
-loop-i-preserved c =
-    let a = c.args in (
-      search rules,
-      some-miss (λ j. is_own (holder_at a.book.now a.v.present (a.v.first + j))) c.loop-i.i c.loop-i.invariant.1
-          (other-there _ _ _ _ c.place-at.ensures c.if-book-at-eq-OWN.false),
-    )
 
 pub returns : goal.returns
 unfolding any_own
 returns c =
-    let l = c.loop-i in
-    let a = c.args in
-    let e : l.i ≡ a.v.width = omega arith in
-    sym l.invariant.1 ∙ ap (some (λ j. is_own (holder_at a.book.now a.v.present (a.v.first + j)))) e
+    let v = c.args.v in
+    let held : ℕ → ℕ = λ i. get_or c.args.book.now (place v.present (v.first + i)) 0 in
+    some-told (λ i. is_own (holder_at c.args.book.now v.present (v.first + i))) v.width (λ i. held i ≡ ours) (λ i. held i ≡ ours → ⊥)
+    (λ i e. own-there _ _ _ _ refl e) (λ i n. other-there _ _ _ _ refl n) c.any.result
+    (cases_from_any _ _ _ (λ i. held i ≡ ours) (λ i. held i ≡ ours → ⊥) c.any.ensures.ran (YieldsList-from_range 0 v.width v.width refl (omega arith))
+    (λ x q k. search (rules, tests)) (λ x q k. search (rules, tests)))

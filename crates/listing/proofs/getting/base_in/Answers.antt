@@ -6,6 +6,6 @@ pub returns : goal.returns
 unfolding base_in
 returns c =
     let l = c.args.list.now in
-    let longitude = back (signed_at l 10) c.longitude-1.given in
-    let latitude = back (signed_at l 11) c.latitude-1.given in
+    let longitude = back (signed_at l 10) c.result-1.given in
+    let latitude = back (signed_at l 11) c.result-2-1.given in
     cc

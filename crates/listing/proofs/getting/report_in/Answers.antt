@@ -6,7 +6,7 @@ pub returns : goal.returns
 unfolding report_in
 returns c =
     let l = c.args.list.now in
-    let turn = back (signed_at l 4) c.turn-1.given in
-    let longitude = back (signed_at l 7) c.longitude-1.given in
-    let latitude = back (signed_at l 8) c.latitude-1.given in
+    let turn = back (signed_at l 4) c.result-1.given in
+    let longitude = back (signed_at l 7) c.result-2-1.given in
+    let latitude = back (signed_at l 8) c.result-3-1.given in
     cc

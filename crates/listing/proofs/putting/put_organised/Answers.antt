@@ -1,9 +1,9 @@
 use mathlib.Core.Path.{sym, ap, ◌∙◌}
 use native.Mathlib.Omega.{arith}
 use lib.IntN.{pos}
-use Rattle.bits.specs.declared.reader.Four.{Four}
+use Rattle.bits.specs.declared.row.Four.{Four}
 use Rattle.listing.proofs.Fits.{exact}
-use Rattle.listing.proofs.Straight.{sub-clock, sub-plain, organised-put}
+use Rattle.listing.proofs.Straight.{sub-clock, sub-plain, two-put, organised-put}
 use Rattle.listing.proofs.putting.put_organised.Goals as goal
 
 pub returns-then-f-eq1 : goal.returns-then-f-eq1
@@ -21,4 +21,8 @@ returns c =
     let e = c.organised_parts-f.ensures in
     let sync = ap (λ (f : Four). f.a) e in
     let time-out = ap (λ (f : Four). f.b) e in
-    organised-put a.v _ a.out.now _ a.at _ _ (sub-plain _ _ (λ z. c.if-f-eq1.false (time-out ∙ z))) (exact _ (omega (arith, sync)) ∙ ap pos sync) (omega arith) (rw (time-out, ap (λ (f : Four). f.c) e) at c.put_plain.ensures)
+    let number = ap (λ (f : Four). f.c) e in
+    let out-time = exact _ (omega (arith, time-out)) ∙ ap pos time-out in
+    let out-number = exact _ (omega (arith, number)) ∙ ap pos number in
+    organised-put a.v _ a.out.now _ a.at _ _ (sub-plain _ _ (λ z. c.if-f-eq1.false (time-out ∙ z))) (exact _ (omega (arith, sync)) ∙ ap pos sync) (omega arith)
+    (two-put _ a.at out-time out-number)

@@ -1,21 +1,25 @@
-use Prim.Native.Nat.{◌+◌, ◌≤◌}
+use mathlib.Core.Path.{◌∙◌}
 use native.Mathlib.Omega.{arith}
-use lib.ListN.{length, drop}
-use lib.Seq.{length-take-le}
-use Rattle.bits.proofs.Bits.{all_bits-drop, value-bound}
-use Rattle.packet.proofs.Taken.{took-word}
+use Rattle.bits.proofs.Bits.{value-bound}
+use Rattle.packet.proofs.Taken.{word-are, word-room, onward-next}
 use Rattle.packet.proofs.reading.take_all.Goals as goal
+
+pub word_at-requires : goal.word_at-requires
+word_at-requires c =
+    let l = c.loop-word.invariant in
+    let n = c.in-Some.ensures.steps in
+    let full = n.1.1 ∙ l.1 in
+    (word-are l.0 _ _ n.1.0 full, omega (arith, full))
 
 pub take_word-s-requires : goal.take_word-s-requires
 take_word-s-requires c =
-    let l = c.loop-i in (
-      omega (arith, c.word_at.ensures, value-bound 32 (drop l.i c.args.part.now) (all_bits-drop l.i c.args.part.now c.requires.0)),
-      l.invariant.0.sound,
-      omega (arith, l.invariant.0.more, length-take-le l.i c.args.part.now l.invariant.1, c.requires.3, c.requires.1, l.invariant.2, c.loop-i-test.true, l.invariant.3),
-    )
+    let l = c.loop-word.invariant in
+    let n = c.in-Some.ensures.steps in
+    let full = n.1.1 ∙ l.1 in
+    (omega (arith, c.word_at.ensures, value-bound 32 c.in-Some.word.now (word-are l.0 _ _ n.1.0 full)), l.0.took.sound, word-room l.0 _ _ n.1.0 full c.requires.3)
 
-pub loop-i-preserved : goal.loop-i-preserved
-loop-i-preserved c =
-    let l = c.loop-i in
-    let h : l.i + 32 ≤ length c.args.part.now = omega (arith, c.requires.1, l.invariant.2, c.loop-i-test.true) in
-    (took-word c.args.part.now l.i c.requires.0 h c.word_at.ensures l.invariant.0 c.take_word-s.ensures, h, omega (arith, l.invariant.2), omega (arith, c.take_word-s.auto.raw, l.invariant.3))
+pub loop-word-preserved : goal.loop-word-preserved
+loop-word-preserved c =
+    let l = c.loop-word.invariant in
+    let n = c.in-Some.ensures.steps in
+    (onward-next l.0 _ _ n.1.0 (n.1.1 ∙ l.1) c.word_at.ensures c.take_word-s.ensures c.take_word-s.auto.raw, n.0 ∙ l.1)

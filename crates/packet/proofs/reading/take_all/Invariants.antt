@@ -1,11 +1,7 @@
-use Prim.Native.Nat.{◌-◌, ◌%◌, ◌≤◌}
+use Rattle.std.specs.Slice.Iter.{chunks_exact_rest, chunks_exact_size}
 use mathlib.Core.Path.{◌≡◌}
-use lib.ListN.{length, take}
-use Rattle.stuffing.specs.Taking.{Took}
+use Rattle.packet.proofs.Taken.{Onward}
 use Rattle.packet.proofs.reading.take_all.Given as goal
 
-abbrev pub invariant-loop-i : goal.invariant-loop-i
-invariant-loop-i l = Took (take l.i l.part) l.initial.s l.initial.raw l.s l.raw × (l.i ≤ length l.part) × (l.i % 32 ≡ 0) × (length l.raw ≡ length l.initial.raw)
-
-abbrev pub decreases-loop-i : goal.decreases-loop-i
-decreases-loop-i l = length l.part - l.i
+abbrev pub invariant-loop-word : goal.invariant-loop-word
+invariant-loop-word l = Onward l.part l.initial.s l.initial.raw l.s l.raw (chunks_exact_rest l.word-iterator) × (chunks_exact_size l.word-iterator ≡ 32)

@@ -17,7 +17,7 @@ take_all-requires c =
       all_bits-take (n - 8 - (8 + over)) (drop (8 + over) bits) (all_bits-drop (8 + over) bits c.requires.0),
       omega (arith, long, c.requires.1),
       t.ensures.sound,
-      omega (arith, long, t.ensures.more, length-low_first 32 c.first_word.result, t.auto.raw, c.requires.1, c.requires.2, c.requires.3),
+      omega (arith, long, t.ensures.more, length-low_first 32 c.first_word.result, t.auto.raw, c.requires.1, c.requires.2),
     )
 
 pub returns : goal.returns

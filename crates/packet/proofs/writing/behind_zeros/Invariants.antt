@@ -1,10 +1,6 @@
-use Prim.Native.Nat.{◌-◌, ◌^◌, ◌≤◌, ◌<◌}
-use lib.ListN.{length}
+use Prim.Native.Nat.{◌^◌, ◌<◌}
 use Rattle.packet.proofs.Behind.{Behind}
 use Rattle.packet.proofs.writing.behind_zeros.Given as goal
 
-abbrev pub invariant-loop-i : goal.invariant-loop-i
-invariant-loop-i l = Behind l.bytes l.i l.v × (l.i ≤ length l.bytes) × (l.v < 2 ^ 32)
-
-abbrev pub decreases-loop-i : goal.decreases-loop-i
-decreases-loop-i l = length l.bytes - l.i
+abbrev pub invariant-loop-b : goal.invariant-loop-b
+invariant-loop-b l = Behind l.bytes l.b-index l.v × (l.v < 2 ^ 32)

@@ -1,5 +1,4 @@
 use native.Mathlib.Omega.{arith}
-use Rattle.plan.specs.Plan.{first}
 use Rattle.plan.proofs.Gaps.{nominal-below, half-most}
 use Rattle.plan.proofs.Plan.first.Goals as goal
 
@@ -8,7 +7,3 @@ overflow_add-result c = let a = c.args in omega (arith, c.nominal.ensures, nomin
 
 pub overflow_sub-result : goal.overflow_sub-result
 overflow_sub-result c = let a = c.args in omega (arith, c.half.ensures, half-most a.self)
-
-pub returns : goal.returns
-unfolding first
-returns c = rw (c.nominal.ensures, c.half.ensures)

@@ -1,5 +1,4 @@
 use native.Mathlib.Omega.{arith}
-use Rattle.plan.specs.Plan.{slots}
 use Rattle.plan.proofs.Gaps.{half-most}
 use Rattle.plan.proofs.Plan.slots.Goals as goal
 
@@ -8,7 +7,3 @@ overflow_mul-result c = omega (arith, c.half.ensures, half-most c.args.self)
 
 pub overflow_add-result : goal.overflow_add-result
 overflow_add-result c = omega (arith, c.half.ensures, half-most c.args.self)
-
-pub returns : goal.returns
-unfolding slots
-returns c = rw c.half.ensures

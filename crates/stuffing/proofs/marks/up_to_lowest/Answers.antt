@@ -3,4 +3,4 @@ use Rattle.stuffing.proofs.Marking.{lowest-is}
 use Rattle.stuffing.proofs.marks.up_to_lowest.Goals as goal
 
 pub returns : goal.returns
-returns c = lowest-is c.args.m c.wrapping_sub_u64.result (omega (arith, c.ranges.m)) (omega (arith, c.wrapping_sub_u64.type_inv)) c.wrapping_sub_u64.ensures.value
+returns c = lowest-is c.args.m (omega (arith, c.ranges.m))

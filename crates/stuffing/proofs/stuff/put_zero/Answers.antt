@@ -1,6 +1,6 @@
 use Rattle.std.proofs.Common.{ℕ, ◌+◌, ◌-◌, ◌*◌, ◌/◌, ◌%◌, ◌^◌, ap}
 use lib.Bits.{bit_and}
-use Rattle.stuffing.specs.Sending.{zero_put}
+use Rattle.stuffing.specs.Filling.{zero_put}
 use Rattle.stuffing.specs.declared.marks.Marked.{Marked}
 use Rattle.stuffing.proofs.stuff.put_zero.Goals as goal
 

@@ -22,5 +22,8 @@ loop-s-smaller c =
 pub loop-s-preserved : goal.loop-s-preserved
 loop-s-preserved c = rw c.put_zero-s-in-loop-s.ensures (filling-on c.loop-s.invariant)
 
-pub returns : goal.returns
-returns c = filling-end c.loop-s.invariant c.loop-s-test.false
+pub returns-clause-stuffs : goal.returns-clause-stuffs
+returns-clause-stuffs c = filling-end c.loop-s.invariant c.loop-s-test.false
+
+pub returns-clause-few : goal.returns-clause-few
+returns-clause-few c = filling-few c.loop-s.invariant

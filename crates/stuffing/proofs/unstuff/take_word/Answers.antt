@@ -10,10 +10,10 @@ pub unstuff_word-x-requires : goal.unstuff_word-x-requires
 unfolding put_in
 unstuff_word-x-requires c = (c.requires.0, omega (arith, c.put_in-m.ensures), c.if-v-m-ne0.false)
 
-pub returns-then-have-x : goal.returns-then-have-x
-returns-then-have-x c =
-    took-part _ _ _ c.requires.0 c.requires.1 c.put_in-m.ensures c.if-v-m-ne0.false c.unstuff_word-x.ensures _ refl refl c.if-have-x.true refl refl refl
+pub returns-then-s-x : goal.returns-then-s-x
+returns-then-s-x c =
+    took-part _ _ _ c.requires.0 c.requires.1 c.put_in-m.ensures c.if-v-m-ne0.false c.unstuff_word-x.ensures _ refl refl c.if-s-x.true refl refl refl
 
 pub returns : goal.returns
 returns c =
-    took-whole _ _ _ c.requires.0 c.requires.1 c.put_in-m.ensures c.if-v-m-ne0.false c.unstuff_word-x.ensures _ refl refl c.requires.2 c.if-have-x.false refl refl refl c.store_eight.ensures
+    took-whole _ _ _ c.requires.0 c.requires.1 c.put_in-m.ensures c.if-v-m-ne0.false c.unstuff_word-x.ensures _ refl refl c.requires.2 c.if-s-x.false refl refl refl c.store_eight.ensures

@@ -1,5 +1,0 @@
-use Rattle.bits.proofs.Rows.{four-fit}
-use Rattle.bits.proofs.row.fit_four.Goals as goal
-
-pub returns : goal.returns
-returns c = four-fit _ _ _ _ _
