@@ -7,7 +7,7 @@ ghost use Rattle.announcing.specs.Next.{NextTime, sooner, Last, runs_time, kind_
 use crate::rows::{Kind, ROWS, Row, is_empty};
 use limits::FRAME;
 
-// The sooner of two times, of which there may be none.
+// The sooner of two times, of which there may be none. By hand: `min` of two Options takes None for the sooner one.
 fn sooner(a: Option<usize>, b: Option<usize>) -> Option<usize>
     ensures { result ≡ sooner a b }
 {

@@ -40,7 +40,7 @@ impl Widths {
 }
 
 impl Four {
-    // Has each number its width?
+    // Has each number its width? By one sum, with no way out between the four.
     pub fn fits(self, w: Widths) -> bool
         requires { (w.0 ≤ 32) × (w.1 ≤ 32) × (w.2 ≤ 32) × (w.3 ≤ 32) }
         ensures { result ≡ all_fit (four_row self w.0 w.1 w.2 w.3) }
@@ -60,7 +60,7 @@ impl Four {
         (three << w.3) + self.d as u64
     }
 
-    // The same of fewer than 32 bits, as a field of so many. Where a number is too wide, so is what comes out.
+    // The same of fewer than 32 bits, as a field of so many. Where a number is too wide, so is what comes out, so that the one test of the row finds it.
     pub fn one(self, w: Widths) -> u32
         requires { w.0 + w.1 + w.2 + w.3 < 32 }
         ensures { result ≡ one_of self w.0 w.1 w.2 w.3 }

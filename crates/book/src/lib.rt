@@ -129,7 +129,7 @@ fn left_alone(c: Counts) -> Handing
     }
 }
 
-// The place is marked for the station h, unless it is our own.
+// The place is marked for the station h, unless it is our own. `free` asks something else of the holder; `put` is what the two share.
 pub fn mark(book: &mut [u16], c: Counts, at: usize, h: u16) -> Handing
     requires { at < length book.old }
     ensures { Puts (λ b. mark_at b at h) book.old c result book.new × (result.new ≤ h) }

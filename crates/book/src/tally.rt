@@ -2,16 +2,13 @@
 ghost use Rattle.std.specs.Prelude.{◌≡◌};
 ghost use Rattle.book.specs.Book.{raised, lowered, counts_by, CountsBy};
 
-use crate::{Counts, NONE, OWN};
-
-// A tally stops at the number of slot times.
-const MOST: u16 = limits::SLOT_TIMES as u16;
+use crate::{ALL, Counts, NONE, OWN};
 
 // One more, stopping there. A number above it stays, which a plain `min` would bring down.
 pub fn up(x: u16) -> u16
     ensures { result ≡ raised x }
 {
-    if x < MOST { x + 1 } else { x }
+    if x < ALL { x + 1 } else { x }
 }
 
 // One less, stopping at 0.

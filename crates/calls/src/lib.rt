@@ -43,6 +43,7 @@ pub struct Ask {
     pub what: What,
 }
 
+// One function for each call of document 01, by its name: documents and callers name them.
 fn asking(w: Watch, n: u16, what: What) -> Ask
     ensures { result ≡ asked w n what }
 {

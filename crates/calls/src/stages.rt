@@ -7,10 +7,10 @@ ghost use Rattle.ship.specs.declared.Station.{Station as Record};
 ghost use Rattle.walks.specs.Out.{Ends};
 ghost use Rattle.register.specs.State.{tallies_in, with_hold};
 ghost use Rattle.calls.specs.declared.told.Task.TheVariants.{Choose as ToChoose, Report as ToReport, New as ToBegin};
-ghost use Rattle.calls.specs.Stages.{Sized, drawn_by, FitTask, Fit, started, PassesOne, Upto, pass_out, Replans, done_out, carried_out};
+ghost use Rattle.calls.specs.Stages.{Sized, drawn_by, FitTask, Fit, PassesOne, Upto, pass_out, Replans, done_out, carried_out};
 
 use crate::told::{Case, Task};
-use book::{Channel, Handing, NONE, Watch, clear, new_watch, put, release, step_on};
+use book::{Channel, NONE, Watch, clear, new_watch, put, release, step_on};
 use choosing::own::{Owning, outcome, own_frames};
 use choosing::{Wanted, ask, judge, scan};
 use hearing::{Hearing, hear};
@@ -60,27 +60,17 @@ fn pass_slot(book: &mut [u16], t: Turn) -> Turn
     }
 }
 
-fn pass_start(watch: Watch, passes: u16) -> Turn
-    ensures { result ≡ started watch passes }
-{
-    Turn {
-        handing: Handing {
-            counts: watch.channel.counts,
-            old: NONE,
-            new: NONE,
-        },
-        at: watch.present,
-        left: passes as usize,
-        marks: 0,
-    }
-}
-
 fn pass_slots(reg: &mut [Station], book: &mut [u16], watch: Watch, passes: u16) -> Watch
     requires { Sized reg.old book.old }
     ensures { Ends (pass_out watch passes reg.old book.old) result reg.new book.new }
 {
     let passing = Passing { watch, passes };
-    let t = run(reg, book, pass_start(watch, passes), &passing);
+    let t = run(
+        reg,
+        book,
+        Turn::begin(watch.channel.counts, watch.present, passes as usize),
+        &passing,
+    );
     Watch {
         present: t.at,
         channel: Channel {

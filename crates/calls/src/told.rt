@@ -32,7 +32,8 @@ pub enum Task {
     Sum,
 }
 
-// How many slots pass first, and what is left to be done then, or why nothing is.
+// How many slots pass first, and what is left to be done then, or why nothing is. It is no `Ask`: what is left may be a refusal. Whether the lengths fit goes along
+// with the functions below, since each call asks for it at its own place in the order.
 #[derive(Clone, Copy)]
 pub struct Case {
     pub watch: Watch,

@@ -5,10 +5,11 @@ use mathlib.Core.Path.{◌≡◌, refl, sym, ap, subst, ◌∙◌}
 use mathlib.Core.Bool.{Bool, true, false, cond}
 use mathlib.Core.List.{List, [], ◌∷◌, ◌++◌, append-nil}
 use Prim.Native.Nat.{ℕ, zero, suc, ◌+◌, ◌*◌, ◌/◌, ◌%◌, ◌≤◌, ◌<◌}
-use native.Mathlib.Nat.{zero-add}
+use native.Mathlib.Nat.{mod-lt, zero-add}
 use native.Mathlib.Numerals.{add-one}
 use native.Mathlib.Omega.{arith}
-use lib.ListN.{length, get_or}
+use lib.ListN.{length, get_or, set, take, length-set}
+use lib.Seq.{take-suc, get_or-set_same, get_or-take, length-take-le}
 use Rattle.std.specs.Bool.{MatchBool}
 use Rattle.std.specs.Int.{from_bool}
 use Rattle.std.specs.declared.result.Result.TheVariants.{Ok, Err}
@@ -17,11 +18,30 @@ use Rattle.std.proofs.lemmas.List.FromFn.{length-range_with_len, get_or-range_wi
 use Rattle.laws.specs.Tests.{pick}
 use Rattle.laws.specs.Counting.{one}
 use Rattle.laws.specs.Ranges.{some, those}
+use Rattle.limits.specs.Limits.{widest}
 use Rattle.numbers.specs.declared.Refusal.TheVariants.{NoCandidate, DrawBack}
 use Rattle.candidates.specs.Window.{at, picked}
-use Rattle.laws.proofs.Ranges.{some-hit, many-le}
-use Rattle.laws.proofs.Those.{those-last, count-those}
+use Rattle.laws.proofs.Ranges.{some-hit}
+use Rattle.laws.proofs.Sums.{one-true, one-false, one-le}
+use Rattle.laws.proofs.Those.{those-none, those-last}
 use Rattle.candidates.proofs.Draws.{picked_none, picked-at, picked-back}
+
+-- a store at n leaves the first n alone
+take-set : (l : List ℕ) (n x : ℕ) → take n (set l n x) ≡ take n l
+take-set [] n x = refl
+take-set (y ∷ l) zero x = refl
+take-set (y ∷ l) (suc n) x = ap (λ (t : List ℕ). y ∷ t) (take-set l n x)
+
+-- .. and comes after them
+take-stored : (l : List ℕ) (n x : ℕ) → n < length l → take (suc n) (set l n x) ≡ take n l ++ (x ∷ [])
+take-stored l n x h =
+    take-suc (set l n x) n 0 (rw length-set h)
+    ∙ ap (λ (y : ℕ). take n (set l n x) ++ (y ∷ [])) (get_or-set_same l n x 0 h)
+    ∙ ap (λ (t : List ℕ). t ++ (x ∷ [])) (take-set l n x)
+
+-- what is known to be a test's count
+pub bit_le : (b : Bool) (n : ℕ) → n ≡ one b → n ≤ 1
+bit_le b n e = omega (arith, e, one-le b)
 
 -- a filter of the n numbers from i on gives those that pass
 pub filter-those : (p : ℕ → Bool) (i n : ℕ) → filter p (range_with_len i n) ≡ those p i n
@@ -65,27 +85,47 @@ unfolding one
 bit-one true = refl
 bit-one false = refl
 
--- ---- the loop: the list has those of the first i numbers that pass
+-- ---- the loop: the first n places of the list have those of the first i numbers that pass
 
-module _ (p : ℕ → Bool) (i : ℕ) where
-  pub listed-few : length (those p 0 i) ≤ i
-  listed-few = omega (arith, count-those p i, many-le p i)
+pub record Listed (p : ℕ → Bool) (out : List ℕ) (n i : ℕ) : Type 0 where
+  pub long : length out ≡ widest
+  pub few : n ≤ i
+  pub is : take n out ≡ those p 0 i
 
-  -- the next number
-  last : those p 0 (i + 1) ≡ those p 0 i ++ pick (p i) (i ∷ []) []
-  last = ap (those p 0) (add-one i) ∙ those-last p 0 i ∙ ap (λ (k : ℕ). those p 0 i ++ pick (p k) (k ∷ []) []) (zero-add i)
+pub listed-none : (p : ℕ → Bool) (out : List ℕ) → length out ≡ widest → Listed p out 0 0
+listed-none p out e = record { long = e; few = omega arith; is = sym (those-none p 0) }
 
-  pub listed_more : p i ≡ true → those p 0 i ++ (i ∷ []) ≡ those p 0 (i + 1)
-  listed_more e = sym (last ∙ ap (λ (b : Bool). those p 0 i ++ pick b (i ∷ []) []) e)
+-- the next number is stored after them, and counted where it passes
+pub listed_more : {p : ℕ → Bool} {out : List ℕ} {n i : ℕ} → Listed p out n i → i < widest → (t : ℕ) → t ≡ one (p i)
+    → Listed p (set out n i) (n + t) (i + 1)
+listed_more {p = p} {out = out} {n = n} {i = i} h l t e =
+    record { long = rw length-set h.long; few = omega (arith, h.few, one-le (p i)); is = go (p i) refl }
+  where
+    longer : n < length out
+    longer = omega (arith, h.few, h.long)
 
-  pub listed-same : p i ≡ false → those p 0 i ≡ those p 0 (i + 1)
-  listed-same e = sym (last ∙ ap (λ (b : Bool). those p 0 i ++ pick b (i ∷ []) []) e ∙ append-nil (those p 0 i))
+    last : those p 0 (i + 1) ≡ those p 0 i ++ pick (p i) (i ∷ []) []
+    last = ap (those p 0) (add-one i) ∙ those-last p 0 i ∙ ap (λ (k : ℕ). those p 0 i ++ pick (p k) (k ∷ []) []) (zero-add i)
 
--- ---- a draw, by the list cs of those of w numbers that pass, n of them
+    go : (b : Bool) → p i ≡ b → take (n + t) (set out n i) ≡ those p 0 (i + 1)
+    go true q =
+        let s : n + t ≡ suc n = omega (arith, one-true q) in
+        ap (λ (k : ℕ). take k (set out n i)) s
+        ∙ take-stored out n i longer
+        ∙ ap (λ (l : List ℕ). l ++ (i ∷ [])) h.is
+        ∙ sym (last ∙ ap (λ (b : Bool). those p 0 i ++ pick b (i ∷ []) []) q)
+    go false q =
+        let s : n + t ≡ n = omega (arith, one-false q) in
+        ap (λ (k : ℕ). take k (set out n i)) s
+        ∙ take-set out n i
+        ∙ h.is
+        ∙ sym (last ∙ ap (λ (b : Bool). those p 0 i ++ pick b (i ∷ []) []) q ∙ append-nil (those p 0 i))
 
-module _ (p : ℕ → Bool) (w : ℕ) (cs : List ℕ) (listed : cs ≡ those p 0 w) (n : ℕ) (many : n ≡ length cs) (a d : ℕ) where
+-- ---- a draw, by the list cs, whose first n are those of w numbers that pass
+
+module _ (p : ℕ → Bool) (w : ℕ) (cs : List ℕ) (n : ℕ) (inside : n ≤ length cs) (listed : take n cs ≡ those p 0 w) (a d : ℕ) where
   number : n ≡ length (those p 0 w)
-  number = many ∙ ap length listed
+  number = sym (length-take-le n cs inside) ∙ ap length listed
 
   pub chosen_none : n ≡ 0 → Err NoCandidate ≡ picked a (those p 0 w) d
   chosen_none e = sym (picked_none a (those p 0 w) d (sym number ∙ e))
@@ -94,8 +134,12 @@ module _ (p : ℕ → Bool) (w : ℕ) (cs : List ℕ) (listed : cs ≡ those p 0
     pub chosen-back : n * (65536 / n) ≤ d → Err DrawBack ≡ picked a (those p 0 w) d
     chosen-back l = sym (picked-back a (those p 0 w) d (omega (arith, number)) (rw number at l))
 
+    -- the element read is one of them
+    read : get_or cs (d % n) 0 ≡ get_or (those p 0 w) (d % n) 0
+    read = sym (get_or-take n cs (d % n) 0 (mod-lt d {m = n} (omega arith))) ∙ ap (λ (t : List ℕ). get_or t (d % n) 0) listed
+
     pub chosen_at : d < n * (65536 / n) → Ok (at (a + get_or cs (d % n) 0) n) ≡ picked a (those p 0 w) d
     chosen_at l =
-        ap (λ (t : List ℕ). Ok (at (a + get_or t (d % n) 0) n)) listed
+        ap (λ (x : ℕ). Ok (at (a + x) n)) read
         ∙ ap (λ (k : ℕ). Ok (at (a + get_or (those p 0 w) (d % k) 0) k)) number
         ∙ sym (picked-at a (those p 0 w) d (omega (arith, number)) (rw number at l))

@@ -1,18 +1,17 @@
 // Which slot of a window a draw picks. Promises: the candidates are those of specs/Window.antt, the document's rule of four, and the slot picked
 // is the one that specs/Choice.antt says. specs/Promises.antt has that every candidate is picked by equally many draws, and when there is none.
 // No distance is stored. The free slots are counted by the book alone; one pass over the window looks each holder's record up in the lent register and
-// keeps the four best keys of available slots; by these and the book the candidates are listed.
+// keeps the four best keys of available slots; by these and the book the candidates are listed. Register and book stay slices: see crate `register`.
 #![tactic(auto)]
 
 pub mod rounds;
 pub mod slot;
 
-ghost use Rattle.std.specs.Prelude.{◌≡◌, ◌+◌, ◌≤◌, ◌<◌, length};
+ghost use Rattle.std.specs.Prelude.{◌≡◌, ◌+◌, ◌≤◌, ◌<◌, length, take};
 ghost use Rattle.laws.specs.Ranges.{those};
 ghost use Rattle.limits.specs.Limits.{frame_slots, slot_times, records, widest, most_time_out};
 ghost use Rattle.candidates.specs.Scanning.{level_at, slot_level, candidate_by, drawn};
 
-use arrayvec::ArrayVec;
 use book::record_of;
 use distance::TOP;
 use limits::WIDEST;
@@ -63,19 +62,19 @@ pub fn slot_level(reg: &[Station], book: &[u16], x: Slot) -> u64
     low
 }
 
-// The candidates, as places in the window. By hand, as `free_at` goes over a slot's times: with chains over the places that count the candidates and meet them
-// again, and over the times, a choice in an empty book takes 1.6 times as long.
-fn list_candidates(book: &[u16], w: Window, free: usize, b: Best) -> ArrayVec<u16, WIDEST>
-    requires { (length book.now ≡ slot_times) × ((w.first ≤ frame_slots) × ((w.timeout < most_time_out + 1) × (w.width ≤ widest))) }
-    ensures { result.items ≡ those (candidate_by book.now w free b) 0 w.width }
+// The candidates go to the first places of the list, as places in the window; the answer is how many. By hand, as `free_at` goes over
+// a slot's times: with chains over the places that count the candidates and meet them again, and over the times, a choice in an empty book takes 1.6 times as long.
+// An array with a length beside it: as an ArrayVec the list lay three times on the stack, 2,864 bytes.
+fn list_candidates(out: &mut [u16], book: &[u16], w: Window, free: usize, b: Best) -> usize
+    requires { (length out.old ≡ widest) × ((length book.now ≡ slot_times) × ((w.first ≤ frame_slots) × ((w.timeout < most_time_out + 1) × (w.width ≤ widest)))) }
+    ensures { (result ≤ w.width) × (take result out.new ≡ those (candidate_by book.now w free b) 0 w.width) }
 {
-    let mut list = ArrayVec::new();
+    let mut n = 0;
     for i in 0..w.width {
-        if is_candidate(book, w, free, b, i) {
-            list.push(i as u16);
-        }
+        out[n] = i as u16;
+        n += usize::from(is_candidate(book, w, free, b, i));
     }
-    list
+    n
 }
 
 // The slot that the draw d picks, where so many slots are free, as far as four, and the best are b.
@@ -83,8 +82,8 @@ pub fn draw(book: &[u16], w: Window, free: usize, b: Best, d: usize) -> Result<P
     requires { (length book.now ≡ slot_times) × ((w.first ≤ frame_slots) × ((w.timeout < most_time_out + 1) × (w.width ≤ widest))) }
     ensures { result ≡ drawn book.now w free b d }
 {
-    let cs = list_candidates(book, w, free, b);
-    let n = cs.len();
+    let mut cs = [0u16; WIDEST];
+    let n = list_candidates(&mut cs, book, w, free, b);
     if n == 0 {
         return Err(Refusal::NoCandidate);
     }

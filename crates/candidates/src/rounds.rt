@@ -10,7 +10,8 @@ use crate::Window;
 use crate::slot::is_free;
 use distance::{HELD_OFF, TOP};
 
-// The four greatest keys, 0 where there are fewer.
+// The four greatest keys, 0 where there are fewer: 0 is below every key, so that `max` and `min` need no case for one that is not there. Four fields and no list,
+// since `better_of` says of each by itself what comes in.
 #[derive(Clone, Copy)]
 pub struct Best {
     pub first: u64,

@@ -12,7 +12,7 @@ use limits::{FRAME, SLOT_TIMES};
 use ship::{Ship, Station};
 
 // A slot: its place in the book, how many of its times are to be looked at, up to which level it is none of the best, whether the slot a frame earlier
-// is own; and our ship. That flag is no Option around the rest, since the worth of a slot is told by it and by what its times come to.
+// is own; and our ship. A flag and no Option around the rest: `slot_of` and `worth_by` (specs/Scanning.antt) are said with it.
 #[derive(Clone, Copy)]
 pub struct Slot {
     pub from: usize,
@@ -134,7 +134,8 @@ fn held_in(book: &[u16], x: Slot, i: usize) -> u16
     book[frames_on(x.from, i)]
 }
 
-// The holder of the time i, if it is to be looked at: not where the slot is low enough already, nor where the frame before has the same holder.
+// The holder of the time i, if it is to be looked at: not where the slot is low enough already, nor where the frame before has the same holder. Nobody then: that
+// level is the highest, so that the lowest stays and the loop needs no case.
 #[tactic(auto, unfolding(crate::specs::Scanning::holder_in, crate::specs::Scanning::stays))]
 pub fn holder(book: &[u16], low: u64, x: Slot, i: usize) -> u16
     requires { (length book.now ≡ slot_times) × ((x.from < slot_times) × (i < 8)) }
@@ -153,7 +154,7 @@ pub fn holder(book: &[u16], low: u64, x: Slot, i: usize) -> u16
     h
 }
 
-// The worth of a slot by the lowest level of its holders.
+// The worth of a slot by the lowest level of its holders: 0 where it is barred, TOP where it is free, and no Option, since worths become keys, which are compared.
 #[tactic(auto, unfolding(crate::specs::Scanning::worth_by))]
 pub fn worth_by(earlier: bool, low: u64) -> u64
     ensures { result ≡ worth_by earlier low }

@@ -2,17 +2,17 @@
 ghost use Rattle.std.specs.Prelude.{◌≡◌, ◌+◌, ◌<◌, ltb, IfOk};
 ghost use Rattle.limits.specs.Limits.{most_time_out};
 ghost use Rattle.walks.specs.Out.{Ends};
-ghost use Rattle.choosing.specs.Owning.{owning_at, owning_of, started, Steps, OwnsOne, Upto, reply_of, Owns, owned_out, chosen_out};
+ghost use Rattle.choosing.specs.Owning.{owning_at, owning_of, Steps, OwnsOne, Upto, reply_of, Owns, owned_out, chosen_out};
 
 use crate::Query;
-use book::{Channel, Handing, NONE, OWN, Watch, place, put};
+use book::{Channel, NONE, OWN, Watch, place, put};
 use candidates::Picked;
 use limits::{FRAME, SLOT_TIMES};
 use numbers::Refusal;
 use register::{Answer, Reply, Slot, Turn, Turns, run};
 use ship::Station;
 
-// What is to become ours: a slot, for which it is not known yet how many marks it replaces, in so many frames.
+// What is to become ours: a slot, for which it is not known yet how many marks it replaces (0 stands there until `replied` puts it in), in so many frames.
 #[derive(Clone, Copy)]
 pub struct Owning {
     pub watch: Watch,
@@ -67,22 +67,6 @@ impl Turns for Owning {
     }
 }
 
-// Before the first frame.
-fn own_start(o: Owning) -> Turn
-    ensures { result ≡ started o }
-{
-    Turn {
-        handing: Handing {
-            counts: o.watch.channel.counts,
-            old: NONE,
-            new: NONE,
-        },
-        at: o.slot.distance,
-        left: o.frames,
-        marks: 0,
-    }
-}
-
 // The time becomes ours, and the next one is a frame later.
 fn own_one(book: &mut [u16], t: Turn, o: Owning) -> Turn
     requires { Steps book.old t }
@@ -121,7 +105,12 @@ fn own_all(reg: &mut [Station], book: &mut [u16], o: Owning) -> Reply
     requires { Owns reg.old book.old o }
     ensures { Ends (owned_out o reg.old book.old) result reg.new book.new }
 {
-    let t = run(reg, book, own_start(o), &o);
+    let t = run(
+        reg,
+        book,
+        Turn::begin(o.watch.channel.counts, o.slot.distance, o.frames),
+        &o,
+    );
     replied(o, t)
 }
 

@@ -3,26 +3,15 @@
 use mathlib.Core.Path.{◌≡◌}
 use mathlib.Core.Bool.{true, false}
 use Prim.Native.Nat.{◌+◌, ◌<◌, ◌≤◌}
-use borrow.Author.Rules.{sfits_of}
 use borrow.Author.Tests.{lt-ltb, le-ltb}
 use native.Mathlib.Omega.{arith}
-use lib.IntN.{ℤ}
-use lib.Signed.{mag}
-use mir.Syntax.{w32}
-use mir.Val.{to_z, of_z}
 use Rattle.std.proofs.lemmas.Bool.Decides.{nat_tests}
 use Rattle.ship.specs.Ship.{known_place}
 use Rattle.ship.specs.declared.Ship.{Ship}
 use Rattle.ship.specs.declared.Station.{Station}
-use Rattle.ship.proofs.Places.{read_back}
 use Rattle.distance.specs.Distance.{gap_to, may_reuse, base_level, unknown_level, held_off_level, far_level, level_of}
 use Rattle.distance.specs.Promises.{LevelsBelowTop, ReusedByDistance}
 use Rattle.distance.proofs.Signs.{farthest-apart}
-
--- whether a position is known, read back from its bits
-pub place-back :
-    (lat lon : ℤ) → mag lat < 2147483648 → mag lon < 2147483648 → known_place (to_z w32 (of_z w32 lat)) (to_z w32 (of_z w32 lon)) ≡ known_place lat lon
-place-back lat lon p q = read_back known_place (sfits_of p) (sfits_of q)
 
 -- ---- each return
 

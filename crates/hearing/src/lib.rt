@@ -17,11 +17,11 @@ ghost use Rattle.walks.specs.Out.{Ends};
 ghost use Rattle.ship.specs.declared.Station.{Station};
 ghost use Rattle.hearing.specs.Station.{fair_other};
 ghost use Rattle.hearing.specs.Hear.{mobile, telling_of, record_for, entered, heard_answer};
-ghost use Rattle.hearing.specs.Booking.{noted_of, place_of, stored_in, holder_of, started, hand_at, Steps, BooksOne, Counted, BooksAll, Booked, freed_out, marked_out};
+ghost use Rattle.hearing.specs.Booking.{noted_of, place_of, stored_in, holder_of, hand_at, Steps, BooksOne, Counted, BooksAll, Booked, freed_out, marked_out};
 
 use announcing::rows::{Kind, ROWS, Row, announced, within};
 use announcing::times::next_time;
-use book::{Channel, Counts, Handing, NONE, Watch, free, mark, place};
+use book::{Channel, Counts, Handing, Watch, free, mark, place};
 use limits::{RECORDS, SLOT_TIMES};
 use message::state::{SelfOrganised, State, SubMessage};
 use message::{Message, Report};
@@ -84,6 +84,7 @@ pub fn tell(message: Message) -> Telling
             longitude: b.longitude,
             state: State::SelfOrganised(s),
         },
+        // No message: source 0, which no station has. `tell` cannot fail, and no bytes come here.
         Message::Other => Telling {
             source: 0,
             repeat: 0,
@@ -152,6 +153,7 @@ fn noted(q: Hearing, k: Option<usize>) -> Result<Booking, Refusal>
     })
 }
 
+// Asked again, and not kept in the type: `noted_of` (specs/Booking.antt) makes a booking of its fields alone.
 #[tactic(auto, unfolding(crate::specs::Booking::place_of))]
 fn place_of(b: Booking) -> usize
     ensures value { result ≡ place_of b }
@@ -204,23 +206,7 @@ fn holder_of(b: Booking) -> u16
     place_of(b) as u16 + 1
 }
 
-// Before the first time.
-fn started(c: Counts, at: usize) -> Turn
-    ensures { result ≡ started c at }
-{
-    Turn {
-        handing: Handing {
-            counts: c,
-            old: NONE,
-            new: NONE,
-        },
-        at,
-        left: 0,
-        marks: 0,
-    }
-}
-
-// The next time of the kind from d on. Where there is none, a run is at the end of the book.
+// The next time of the kind from d on. Where there is none, a run is at the end of the book: the place of a `Turn` is a number, since other runs always have a next one.
 fn next_from(b: Booking, d: usize, kind: Kind) -> usize
     requires { (in_book b.rows ≡ true) × (d ≤ slot_times) }
     ensures { Next (kind_time kind b.rows) d result }
@@ -228,7 +214,7 @@ fn next_from(b: Booking, d: usize, kind: Kind) -> usize
     next_time(b.rows, d, kind).unwrap_or(SLOT_TIMES)
 }
 
-// A place is marked for h, or freed of it.
+// A place is marked for h, or freed of it. By the kind and not by a closure: the kind also says which rows the run goes through.
 fn hand(book: &mut [u16], c: Counts, at: usize, h: u16, kind: Kind) -> Handing
     requires { at < length book.old }
     ensures { Puts (λ b. hand_at kind b at h) book.old c result book.new × (result.new ≤ h) }
@@ -287,9 +273,15 @@ fn book_all(reg: &mut [Station], book: &mut [u16], b: Booking, kind: Kind) -> Tu
 {
     let times = Times { booking: &b, kind };
     let first = next_from(b, 0, kind);
-    run(reg, book, started(b.watch.channel.counts, first), &times)
+    run(
+        reg,
+        book,
+        Turn::begin(b.watch.channel.counts, first, 0),
+        &times,
+    )
 }
 
+// A struct update, here and where slots pass or become ours: each changes what it has to of the watch.
 fn watch_after(b: Booking, t: Turn) -> Watch
     ensures { result ≡ with_counts b.watch t.handing.counts }
 {

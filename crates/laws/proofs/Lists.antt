@@ -9,8 +9,8 @@ use native.Mathlib.Numerals.{add-one}
 use native.Mathlib.Omega.{arith}
 use borrow.Author.Tests.{eq-eqb, eqb-true}
 use lib.Dec.{eqb}
-use lib.ListN.{length, get_or, take, drop, set, length-set, drop_of_length-le, length-drop, take-append-drop}
-use lib.Seq.{take-suc, get_or-set_same, drop-cons, take-append-le, drop-append-le, take-add, take_at, drop_at, set-set, set_comm, sets, sets-eq}
+use lib.ListN.{length, get_or, take, drop, set, drop_of_length-le, length-drop, take-append-drop}
+use lib.Seq.{drop-cons, take-append-le, drop-append-le, take-add, take_at, drop_at, set-set, set_comm, sets, sets-eq}
 use Rattle.laws.specs.Tests.{both}
 use Rattle.laws.specs.Lists.{over, same, AllBytes}
 use Rattle.laws.proofs.Tests.{both_left, both_right}
@@ -84,19 +84,6 @@ stored-and-more zs xs ys out m o e l h =
 pub stored-over : {A : Type 0} (xs l : List A) → length xs ≤ length l → sets l 0 xs ≡ over xs l
 unfolding over
 stored-over xs l h = sets-eq xs l 0 (omega arith) ∙ ap (λ (k : ℕ). xs ++ drop k l) (zero-add (length xs))
-
--- a store at n leaves the first n alone
-pub take-set : (l : List ℕ) (n x : ℕ) → take n (set l n x) ≡ take n l
-take-set [] n x = refl
-take-set (y ∷ l) zero x = refl
-take-set (y ∷ l) (suc n) x = ap (λ (t : List ℕ). y ∷ t) (take-set l n x)
-
--- .. and comes after them
-pub take-stored : (l : List ℕ) (n x : ℕ) → n < length l → take (suc n) (set l n x) ≡ take n l ++ (x ∷ [])
-take-stored l n x h =
-    take-suc (set l n x) n 0 (rw length-set h)
-    ∙ ap (λ (y : ℕ). take n (set l n x) ++ (y ∷ [])) (get_or-set_same l n x 0 h)
-    ∙ ap (λ (t : List ℕ). t ++ (x ∷ [])) (take-set l n x)
 
 -- ---- equal lists
 

@@ -141,7 +141,3 @@ pub one-le : (b : Bool) → one b ≤ 1
 unfolding one
 one-le true = omega arith
 one-le false = omega arith
-
--- so is what is known to be a test's count
-pub bit_le : (b : Bool) (n : ℕ) → n ≡ one b → n ≤ 1
-bit_le b n e = omega (arith, e, one-le b)

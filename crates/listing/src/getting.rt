@@ -34,6 +34,7 @@ fn plain_four(list: &[i32], i: usize) -> Four
     }
 }
 
+// A report, and below a base station's: other fields in another order, each named once. So it is in putting.rt too.
 pub fn report_in(list: &[i32]) -> Report
     requires { list_places ≤ length list.now }
     ensures { result ≡ report_in list.now }

@@ -14,7 +14,8 @@ use message::reading::{Head, base_in, report_in};
 use message::state::{Incremental, State, clock_in, organised_parts, state_in};
 use message::{Base, Report};
 
-// Number by number: put by `copy_from_slice` as a row, they would first be laid on the stack, and reading would take a quarter longer.
+// A report, and below a base station's: other fields in another order. Number by number: put by `copy_from_slice` as a row, they would first be laid on the
+// stack, and reading would take a quarter longer.
 fn put_report(id: u32, r: Report, out: &mut [i32])
     requires { (list_places ≤ length out.old) × SmallReport id r }
     ensures { out.new ≡ sets out.old 0 (report_numbers id r) }

@@ -11,7 +11,7 @@ use bits::reader::Reader;
 use bits::row::{Four, Widths};
 use limits::MESSAGE;
 
-// The widths of all fields of a message.
+// The widths of all fields of a message. Not one type with `Rows`: nothing is done to widths and to numbers alike.
 #[derive(Clone, Copy)]
 pub struct Layout {
     pub a: Widths,

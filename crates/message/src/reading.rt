@@ -16,7 +16,8 @@ use bits::field::field;
 use limits::MESSAGE;
 use numbers::Refusal;
 
-// A report, and its state as one number of 19 bits.
+// A report, and its state as one number of 19 bits; and the same of a base station's. Two structs, since `report_read` and `base_read` (specs/Sheet.antt) name their
+// fields.
 #[derive(Clone, Copy)]
 pub struct ReportRead {
     pub report: Report,
@@ -59,6 +60,7 @@ pub fn head_of(bytes: &[u8]) -> Result<Head<'_>, Refusal>
     }
 }
 
+// A report, and below a base station's: other fields in another order, each named once. So it is in writing.rt too.
 pub fn report_in(bytes: &[u8; MESSAGE]) -> ReportRead
     ensures { result ≡ report_read bytes.now }
 {

@@ -121,7 +121,7 @@ fn incremental_in(v: u32) -> Incremental
     }
 }
 
-// What the 19 bits, v, say in a message of this id.
+// What the 19 bits, v, say in a message of this id, which is a number: see `Head` in reading.rt.
 #[tactic(auto, unfolding(crate::specs::Sheet::state_from))]
 pub fn state_in(id: u32, v: u32) -> State
     ensures { result ≡ state_from id v }

@@ -15,7 +15,8 @@ use limits::{LEAST_CHECKED, MOST_BODY, MOST_CHECKED};
 use numbers::Refusal;
 use stuffing::unstuff::{Taking, take_word};
 
-// What is read goes behind four bytes of zeros, eight bytes at a time: the bytes that this may touch, and how many there are in the end.
+// What is read goes behind four bytes of zeros, eight bytes at a time: the bytes that this may touch, and how many there are in the end. An array with a count in
+// `Taking`, and no list: the next eight bytes cover those that were too many.
 const RAW: usize = (MOST_BODY + 32) / 8 + 8;
 
 const LEAST_RAW: usize = 4 + LEAST_CHECKED / 8;

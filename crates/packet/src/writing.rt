@@ -28,7 +28,7 @@ struct Progress {
     reg: u16,
 }
 
-// Up to four bytes as the last ones of four whose others are zeros.
+// Up to four bytes as the last ones of four whose others are zeros. By hand: fewer than four bytes are no array that `from_le_bytes` takes.
 fn behind_zeros(bytes: &[u8]) -> u32
     requires { length bytes.now ≤ 4 }
     ensures { low_first 32 result ≡ zeros (32 - 8 * length bytes.now) ++ sent_bits bytes.now }

@@ -29,7 +29,7 @@ impl Plan {
         Self { rate: 0, start: 0 }
     }
 
-    // The plan with another rate and start.
+    // The plan with another rate and start. What it was does not matter; the method is public and stays.
     pub fn changed(self, rate: u16, start: u16) -> Self
         ensures { (result.rate ≡ rate) × (result.start ≡ start) }
     {

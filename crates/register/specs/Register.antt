@@ -6,9 +6,14 @@ use Rattle.laws.specs.Loops.{upto}
 use Rattle.limits.specs.Limits.{slot_times, hold_off}
 use Rattle.ship.specs.declared.Station.{Station}
 use Rattle.ship.specs.Ship.{blank}
+use Rattle.book.specs.declared.Counts.{Counts}
 use Rattle.book.specs.Book.{ours, is_record, record_at, raised, lowered, put_at}
 use Rattle.register.specs.declared.Turn.{Turn}
 use Rattle.register.specs.State.{State, book_in, with_tally, with_hold, settle, moved_on}
+
+-- before the first slot time of a run
+abbrev pub begun : Counts → ℕ → ℕ → Turn
+begun c at left = record { handing = record { counts = c; old = 0; new = 0 }; at = at; left = left; marks = 0 }
 
 -- one less, and held off where the slot time became ours; a holder without a record changes nothing
 unfoldable pub less_by : Station → Turn → Station

@@ -1,16 +1,18 @@
 // The lent register and the state that the calls go on: who has lost a slot time and who has got it has its tally follow, in its own record. Promises: `lose` and
 // `win` change one record each, and that one as specs/Register.antt says; `run` does what is to be done at each slot time of a run, for whatever that is, and both
-// records follow; specs/State.antt has the state, and what becomes of it where something is done to the book.
+// records follow; specs/State.antt has the state, and what becomes of it where something is done to the book. Register and book are lent as slices, side by
+// side, also by C, and stay so: `call` refuses other lengths by number, each call at its own place in the order, and to make arrays of them after that would be
+// a step that can fail.
 #![tactic(auto)]
 
 ghost use Rattle.std.specs.Prelude.{◌≡◌, ◌<◌, ℕ, Bool, false, List, length};
 ghost use Rattle.limits.specs.Limits.{records, slot_times};
 ghost use Rattle.ship.specs.declared.Station.{Station as Record};
-ghost use Rattle.register.specs.Register.{less_by, more_by, lost_in, won_in};
+ghost use Rattle.register.specs.Register.{begun, less_by, more_by, lost_in, won_in};
 ghost use Rattle.register.specs.Runs.{MayStep, Keeps};
 
 use book::tally::{down, up};
-use book::{Handing, OWN, Watch, is_record, record_of};
+use book::{Counts, Handing, NONE, OWN, Watch, is_record, record_of};
 use message::state::SubMessage;
 use numbers::Refusal;
 use ship::Station;
@@ -24,6 +26,24 @@ pub struct Turn {
     pub at: usize,
     pub left: usize,
     pub marks: usize,
+}
+
+impl Turn {
+    // Before the first slot time of a run: nothing is done yet, and none has counted.
+    pub fn begin(counts: Counts, at: usize, left: usize) -> Turn
+        ensures { result ≡ begun counts at left }
+    {
+        Turn {
+            handing: Handing {
+                counts,
+                old: NONE,
+                new: NONE,
+            },
+            at,
+            left,
+            marks: 0,
+        }
+    }
 }
 
 // A station that was heard, and how many slot times are its by this report.

@@ -1,5 +1,5 @@
 // The report of a slot of ours: time-out and sub-message. Promises: `report` gives what specs/Report.antt defines, for every book and every plan in its range; it only
-// looks. specs/Promises.antt has what the time-out and the offset say of the book.
+// looks. The book stays a slice of its length: see crate `register`. specs/Promises.antt has what the time-out and the offset say of the book.
 #![tactic(auto)]
 
 pub mod look;
@@ -9,9 +9,8 @@ ghost use Rattle.limits.specs.Limits.{slot_times, records, most_time_out};
 ghost use Rattle.plan.specs.Plan.{InRange};
 ghost use Rattle.reporting.specs.Report.{sub_message, time_fits, reported};
 
-use book::{OWN, place};
 use limits::FRAME;
-use look::{frames_own, next_own};
+use look::{frames_own, next_own, own_at};
 use message::state::{Clock, Counted, SubMessage};
 use numbers::Refusal;
 use plan::Plan;
@@ -67,7 +66,7 @@ pub fn fits(time: Time) -> bool
 }
 
 // The report of the present slot, with so many stations received: 36. The time-out follows from which sub-message it is.
-#[tactic(auto, unfolding(crate::specs::Report::reported, crate::specs::Report::own_at))]
+#[tactic(auto, unfolding(crate::specs::Report::reported))]
 pub fn report(
     book: &[u16],
     stations: usize,
@@ -78,7 +77,7 @@ pub fn report(
     requires { (length book.now ≡ slot_times) × (stations ≤ records) × InRange p }
     ensures { result ≡ reported book.now stations present p time }
 {
-    if book[place(present, 0)] != OWN {
+    if !own_at(book, present, 0) {
         return Err(Refusal::NotOwn);
     }
     let n = frames_own(book, present);

@@ -1,5 +1,5 @@
 // What a report looks up in the book. Promise: as specs/Report.antt says. Book and now are handed in side by side, as the two public functions' callers have
-// them: the list is lent, now stands in a watch.
+// them: the list is lent, now stands in a watch. The plan comes beside now, since nothing else of the watch is asked for.
 ghost use Rattle.std.specs.Prelude.{◌≡◌, ◌+◌, ◌≤◌, ◌<◌, length};
 ghost use Rattle.limits.specs.Limits.{slot_times};
 ghost use Rattle.plan.specs.Plan.{InRange};
@@ -11,7 +11,7 @@ use plan::Plan;
 
 // Whether the time d ahead is ours.
 #[tactic(auto, unfolding(crate::specs::Report::own_at))]
-fn own_at(book: &[u16], present: usize, d: usize) -> bool
+pub(crate) fn own_at(book: &[u16], present: usize, d: usize) -> bool
     requires { (length book.now ≡ slot_times) × (d < slot_times) }
     ensures { result ≡ own_at book.now present d }
 {

@@ -12,6 +12,7 @@ const UNKNOWN_LATITUDE: i32 = 54600000;
 
 const UNKNOWN_LONGITUDE: i32 = 108600000;
 
+// Latitude and longitude are two numbers and no Position: a record is laid out for C with both in it, and `own`, `known` and `distance` are public and take the two.
 #[derive(Clone, Copy)]
 pub struct Ship {
     pub source: u32,
@@ -42,7 +43,7 @@ pub fn unknown() -> Ship
     }
 }
 
-// A record of a new register.
+// A record of a new register: all zeros, as C lays it out too.
 pub fn blank() -> Station
     ensures { result ≡ blank }
 {

@@ -53,6 +53,7 @@ fn put(count: usize, bits: u64, out: &mut [u8], at: usize)
     ensures { out.new ≡ sets out.old at (low_first (8 * count) bits) }
 {
     for i in 0..count {
+        // by hand: so many bytes of it are sent, each where it is turned
         let byte = (bits >> (8 * i)) % 256;
         store_eight(out, at + 8 * i, spread(turn(byte as u8)));
     }

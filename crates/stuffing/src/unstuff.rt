@@ -18,7 +18,7 @@ pub struct Taking {
     pub count: usize,
 }
 
-// Which of 32 bits were put in: those with five ones before them.
+// 32 bits go in 64, here and in stuff.rt: the steps on them go above them. Which of 32 bits were put in: those with five ones before them.
 fn put_in(tail: u64, v: u64) -> u64
     requires { (tail < 32) × (v < 2 ^ 32) }
     ensures { result ≡ put_in tail v }
@@ -26,7 +26,7 @@ fn put_in(tail: u64, v: u64) -> u64
     fives(v * 32 + tail) % 0x100000000
 }
 
-// The bits without the lowest one that is marked; as they are where none is.
+// The bits without the lowest one that is marked; as they are where none is. The other way than `put_zero`: only the lowest mark is found alike.
 fn leave_out(s: Marked) -> Marked
     requires { (s.bits < 2 ^ 32) × (s.marks < 2 ^ 32) × (s.done ≤ 32) }
     ensures { result ≡ left_out s }

@@ -31,7 +31,7 @@ fn word(bytes: &[u8], at: usize) -> u16
     u16::from_le_bytes([byte(bytes, at), byte(bytes, at + 1)])
 }
 
-// A latitude or a longitude: all that can be known have 28 bits.
+// A latitude or a longitude: all that can be known have 28 bits. By hand, since a byte that is not there counts as 0 and the library takes whole types.
 fn position(bytes: &[u8], at: usize) -> i32
     requires { at < 20 }
     ensures { result ≡ place_at bytes.now at }

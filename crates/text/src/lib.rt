@@ -1,5 +1,6 @@
 // Numbers as text at the start of a lent buffer. Promise: the digits that specs/Text.antt defines, how many bytes they take, and the rest
 // of the buffer as it was.
+// Each gives back how many bytes it wrote: the buffer is lent, and nothing here uses a heap.
 #![tactic(auto)]
 
 ghost use Rattle.std.specs.Prelude.{◌+◌, ◌*◌, ◌≤◌, ◌≡◌, length};

@@ -1,3 +1,2 @@
 pub mod Folded
 pub mod Out
-pub mod Swept

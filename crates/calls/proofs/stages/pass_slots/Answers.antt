@@ -8,7 +8,7 @@ use Rattle.calls.proofs.stages.pass_slots.Goals as goal
 pub run-t-requires-clause-begins : goal.run-t-requires-clause-begins
 run-t-requires-clause-begins c =
     let a = c.args in
-    subst (λ (t : Turn). Upto a.watch a.passes a.reg.now a.book.now t a.reg.now a.book.now) (sym c.pass_start.ensures) (begins a.watch a.passes a.reg.now a.book.now)
+    subst (λ (t : Turn). Upto a.watch a.passes a.reg.now a.book.now t a.reg.now a.book.now) (sym c.begin.ensures) (begins a.watch a.passes a.reg.now a.book.now)
 
 pub returns : goal.returns
 returns c =

@@ -11,7 +11,7 @@ use Rattle.choosing.proofs.own.own_all.Goals as goal
 pub run-t-requires-clause-begins : goal.run-t-requires-clause-begins
 run-t-requires-clause-begins c =
     let a = c.args in
-    subst (λ (t : Turn). Upto a.o a.reg.now a.book.now t a.reg.now a.book.now) (sym c.own_start.ensures)
+    subst (λ (t : Turn). Upto a.o a.reg.now a.book.now t a.reg.now a.book.now) (sym c.begin.ensures)
     (Frames.starts a.o a.reg.now a.book.now c.requires.inside)
 
 pub returns : goal.returns
