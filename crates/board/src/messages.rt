@@ -16,7 +16,8 @@ pub fn qs_message_read(message: &[u8], fields: &mut [i32], count: &mut u32) -> u
     }
     match head_of(message) {
         Ok(head) => {
-            *count = list(head, fields);
+            let bytes = head.bytes;
+            *count = list(bytes, head.id, fields);
             0
         }
         Err(unread) => u32::from(unread),

@@ -2,15 +2,15 @@
 ghost use Rattle.std.specs.Prelude.{◌≡◌, true, [], ◌∷◌, ◌+◌, ◌≤◌, ◌<◌, pos, length};
 ghost use Rattle.std.proofs.lemmas.List.Edits.{sets};
 ghost use Rattle.laws.specs.Tests.{between};
-ghost use Rattle.limits.specs.Limits.{list_places};
+ghost use Rattle.limits.specs.Limits.{message_bytes, list_places};
 ghost use Rattle.bits.specs.Row.{all_fit};
-ghost use Rattle.message.specs.Message.{message_of};
+ghost use Rattle.message.specs.Message.{id_in, message_of};
 ghost use Rattle.message.specs.Sheet.{clock_from, organised_from};
 ghost use Rattle.message.specs.State.{incremental_row};
 ghost use Rattle.message.specs.declared.state.SubMessage.TheVariants.{Time};
 ghost use Rattle.listing.specs.Listing.{report_numbers, base_numbers, sub_numbers, organised_numbers, incremental_numbers, Lists, Small, SmallReport, SmallBase};
 
-use message::reading::{Head, base_in, report_in};
+use message::reading::{base_in, report_in};
 use message::state::{Incremental, State, clock_in, organised_parts, state_in};
 use message::{Base, Report};
 
@@ -98,27 +98,27 @@ fn put_incremental(s: Incremental, out: &mut [i32]) -> u32
     19
 }
 
-fn list_base(head: Head, out: &mut [i32]) -> u32
-    requires { (head.id ≡ 4) × (list_places ≤ length out.old) }
-    ensures { Lists (message_of head.entry.bytes.now) out.old result out.new }
+fn list_base(bytes: &[u8], out: &mut [i32]) -> u32
+    requires { (length bytes.now ≡ message_bytes) × (id_in bytes.now ≡ 4) × (list_places ≤ length out.old) }
+    ensures { Lists (message_of bytes.now) out.old result out.new }
 {
-    let x = base_in(head.bytes);
+    let x = base_in(bytes);
     put_base(x.base, out);
     put_organised(x.state, out, 16)
 }
 
-// The numbers of a message that can be read, in the first places of out: how many. It goes straight from the bytes to the list; with
+// The numbers of the message in 21 bytes, whose id is known, in the first places of out: how many. It goes straight from the bytes to the list; with
 // the message made between them it took three times as long. Message 3 alone carries the incremental state.
-pub fn list(head: Head, out: &mut [i32]) -> u32
-    requires { (between 1 4 head.id ≡ true) × (list_places ≤ length out.old) }
-    ensures { Lists (message_of head.entry.bytes.now) out.old result out.new }
+pub fn list(bytes: &[u8], id: u32, out: &mut [i32]) -> u32
+    requires { (length bytes.now ≡ message_bytes) × (id ≡ id_in bytes.now) × (between 1 4 (id_in bytes.now) ≡ true) × (list_places ≤ length out.old) }
+    ensures { Lists (message_of bytes.now) out.old result out.new }
 {
-    if head.id == 4 {
-        return list_base(head, out);
+    if id == 4 {
+        return list_base(bytes, out);
     }
-    let x = report_in(head.bytes);
-    put_report(head.id, x.report, out);
-    let state = state_in(head.id, x.state);
+    let x = report_in(bytes);
+    put_report(id, x.report, out);
+    let state = state_in(id, x.state);
     let State::Incremental(s) = state else {
         return put_organised(x.state, out, 15);
     };

@@ -1,4 +1,5 @@
-// How the fields of a message lie in its bytes: four in a row, in four rows. Each width stands here once, for reading, testing and writing.
+// How the fields of a message lie in its bytes: four in a row, in four rows. Reading, testing and writing go by these widths; that of a field with a sign stands
+// once more where its sign is taken or put.
 // Promise: they are read as `rows_at` says, and tested and written as `fields_in` (specs/Sheet.antt).
 ghost use Rattle.std.specs.Prelude.{◌≡◌, true, ◌≤◌, length};
 ghost use Rattle.laws.specs.Lists.{over};
@@ -9,7 +10,6 @@ ghost use Rattle.message.specs.Sheet.{Whole, rows_at, fields_in};
 
 use bits::reader::Reader;
 use bits::row::{Four, Widths};
-use limits::MESSAGE;
 
 // The widths of all fields of a message. Not one type with `Rows`: nothing is done to widths and to numbers alike.
 #[derive(Clone, Copy)]
@@ -52,8 +52,8 @@ pub const FLAG_AND_STATE: Widths = Widths(1, 19, 0, 0);
 impl Layout {
     // The rows that stand in the bytes of a message.
     #[inline(always)]
-    pub fn read(self, bytes: &[u8; MESSAGE]) -> Rows
-        requires { Whole self }
+    pub fn read(self, bytes: &[u8]) -> Rows
+        requires { (length bytes.now ≡ message_bytes) × Whole self }
         ensures { result ≡ rows_at self bytes.now }
     {
         let mut reader = Reader::new(bytes);

@@ -71,7 +71,9 @@ pub enum Message {
 pub fn read(bytes: &[u8]) -> Result<Message, Refusal>
     ensures { result ≡ read_answer bytes.now }
 {
-    Ok(message_in(head_of(bytes)?))
+    let head = head_of(bytes)?;
+    let whole = head.bytes;
+    Ok(message_in(whole, head.id))
 }
 
 // The 21 bytes of a message in the first places of out: 12, 18, 19.

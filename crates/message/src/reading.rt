@@ -61,7 +61,8 @@ pub fn head_of(bytes: &[u8]) -> Result<Head<'_>, Refusal>
 }
 
 // A report, and below a base station's: other fields in another order, each named once. So it is in writing.rt too.
-pub fn report_in(bytes: &[u8; MESSAGE]) -> ReportRead
+pub fn report_in(bytes: &[u8]) -> ReportRead
+    requires { length bytes.now ≡ message_bytes }
     ensures { result ≡ report_read bytes.now }
 {
     let x = REPORT.read(bytes);
@@ -87,7 +88,8 @@ pub fn report_in(bytes: &[u8; MESSAGE]) -> ReportRead
     }
 }
 
-pub fn base_in(bytes: &[u8; MESSAGE]) -> BaseRead
+pub fn base_in(bytes: &[u8]) -> BaseRead
+    requires { length bytes.now ≡ message_bytes }
     ensures { result ≡ base_read bytes.now }
 {
     let x = BASE.read(bytes);
@@ -116,7 +118,8 @@ pub fn base_in(bytes: &[u8; MESSAGE]) -> BaseRead
 }
 
 // Message 4.
-fn base_message(bytes: &[u8; MESSAGE]) -> Message
+fn base_message(bytes: &[u8]) -> Message
+    requires { length bytes.now ≡ message_bytes }
     ensures { result ≡ Station (base_of bytes.now) (organised_of bytes.now) }
 {
     let x = base_in(bytes);
@@ -136,16 +139,17 @@ fn organised(id: u32, report: Report, state: State, v: u32) -> Message
 }
 
 // The message, by its id. Message 3 alone carries the incremental state.
-pub fn message_in(head: Head) -> Message
-    ensures { result ≡ message_of head.entry.bytes.now }
+pub fn message_in(bytes: &[u8], id: u32) -> Message
+    requires { (length bytes.now ≡ message_bytes) × (id ≡ id_in bytes.now) }
+    ensures { result ≡ message_of bytes.now }
 {
-    if head.id == 4 {
-        return base_message(head.bytes);
+    if id == 4 {
+        return base_message(bytes);
     }
-    let x = report_in(head.bytes);
-    let state = state_in(head.id, x.state);
+    let x = report_in(bytes);
+    let state = state_in(id, x.state);
     let State::Incremental(i) = state else {
-        return organised(head.id, x.report, state, x.state);
+        return organised(id, x.report, state, x.state);
     };
     Message::Three(x.report, i)
 }

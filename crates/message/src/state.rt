@@ -1,7 +1,7 @@
 // The communication state, 19 bits at the end of a message, taken apart. Promise: it is read and written as specs/State.antt says.
 ghost use Rattle.std.specs.Prelude.{◌≡◌, ◌<◌};
 ghost use Rattle.message.specs.State.{time_out_of};
-ghost use Rattle.message.specs.Sheet.{clock_from, sub_from, organised_parts, organised_from, incremental_from, state_from, StandsIn, clock_value, value_of, organised_value, incremental_value};
+ghost use Rattle.message.specs.Sheet.{clock_from, sub_from, organised_parts, organised_from, incremental_from, state_from, StandsIn, clock_value, value_of, organised_four, incremental_four, organised_value, incremental_value};
 
 use bits::row::{Four, Widths};
 
@@ -178,27 +178,40 @@ fn value(sub: SubMessage) -> u32
     }
 }
 
-// The state as one number of 19 bits; too wide where a part of it is.
-pub fn organised_value(s: SelfOrganised) -> u32
-    ensures { result ≡ organised_value s }
+// The parts of a state as four numbers, whatever their widths.
+pub fn organised_four(s: SelfOrganised) -> Four
+    ensures { result ≡ organised_four s }
 {
-    let four = Four {
+    Four {
         a: s.sync,
         b: time_out(s.sub),
         c: value(s.sub),
         d: 0,
-    };
+    }
+}
+
+pub fn incremental_four(s: Incremental) -> Four
+    ensures { result ≡ incremental_four s }
+{
+    Four {
+        a: s.sync,
+        b: s.increment,
+        c: s.code,
+        d: s.keep,
+    }
+}
+
+// The state as one number of 19 bits; too wide where a part of it is.
+pub fn organised_value(s: SelfOrganised) -> u32
+    ensures { result ≡ organised_value s }
+{
+    let four = organised_four(s);
     four.one(ORGANISED)
 }
 
 pub fn incremental_value(s: Incremental) -> u32
     ensures { result ≡ incremental_value s }
 {
-    let four = Four {
-        a: s.sync,
-        b: s.increment,
-        c: s.code,
-        d: s.keep,
-    };
+    let four = incremental_four(s);
     four.one(INCREMENTAL)
 }

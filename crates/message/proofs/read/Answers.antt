@@ -6,6 +6,6 @@ use Rattle.message.proofs.read.Goals as goal
 
 pub returns : goal.returns
 returns c =
-    let head = c.in_ok-head_of.field-0 in
-    let h = c.in_ok-head_of.ensures in
+    let head = c.in_ok-head.head in
+    let h = c.in_ok-head.ensures in
     ap Ok c.message_in.ensures ∙ read-good _ head.whole (rw head.told at h.1) ∙ ap read_answer h.0

@@ -15,7 +15,7 @@ pub returns : goal.returns
 unfolding base_of
 returns c =
     let e = c.read-x.ensures in
-    let long = c.told-bytes in
+    let long = c.requires in
     let longitude = meant _ _ _ _ _ c.signed.type_inv c.signed.ensures (ap (λ (x : Rows). x.c.c) e) in
     let latitude = meant _ _ _ _ _ c.signed-2.type_inv c.signed-2.ensures (ap (λ (x : Rows). x.c.d) e) in
     rw (longitude, latitude, c.split-last.ensures, e, raim-apart _ long, state-apart _ long)
