@@ -39,7 +39,7 @@ const MOST: u16 = MOST_TIME_OUT as u16;
 
 // ---- what a state announces
 
-const UNUSED: Row = Row {
+pub const UNUSED: Row = Row {
     from: 0,
     slots: 0,
     step: 0,

@@ -198,15 +198,16 @@ fn answer(reg: &mut [Station], book: &mut [u16], watch: Watch, task: Result<Task
     }
 }
 
-// The slots pass, the records grow older, and the rest is done.
+// The slots pass, the records grow older, and the rest is done. `answer` is called at one place, so that a compiler takes it in: at two, each call would have its
+// stack below this one's, and a refusal would take half as long again.
 pub fn carry(reg: &mut [Station], book: &mut [u16], c: Case) -> Reply
     requires { Fit reg.old book.old c }
     ensures { Ends (carried_out c reg.old book.old) result reg.new book.new }
 {
-    if c.passes == 0 {
-        return answer(reg, book, c.watch, c.task);
+    let mut watch = c.watch;
+    if c.passes > 0 {
+        watch = pass_slots(reg, book, watch, c.passes);
+        age(reg, c.passes);
     }
-    let watch = pass_slots(reg, book, c.watch, c.passes);
-    age(reg, c.passes);
     answer(reg, book, watch, c.task)
 }

@@ -49,11 +49,11 @@ pub struct Hearing {
 
 // A report that is to be booked, with the station's record and the rows that it announces.
 #[derive(Clone, Copy)]
-struct Booking {
-    watch: Watch,
-    telling: Telling,
-    at: usize,
-    rows: [Row; ROWS],
+pub struct Booking {
+    pub watch: Watch,
+    pub telling: Telling,
+    pub at: usize,
+    pub rows: [Row; ROWS],
 }
 
 fn mobile(r: Report, state: State) -> Telling
@@ -134,7 +134,7 @@ pub fn find(reg: &[Station], q: Hearing) -> Option<usize>
 
 // What is to be booked, `k` being the station's record: 23, 35.
 #[tactic(auto, unfolding(crate::specs::Booking::noted_of), using(crate::proofs::Noting::rows_inside))]
-fn noted(q: Hearing, k: Option<usize>) -> Result<Booking, Refusal>
+pub fn noted(q: Hearing, k: Option<usize>) -> Result<Booking, Refusal>
     ensures { result ≡ noted_of q (unwrap_or k records) }
 {
     let at = match k {
@@ -155,8 +155,8 @@ fn noted(q: Hearing, k: Option<usize>) -> Result<Booking, Refusal>
 
 // Asked again, and not kept in the type: `noted_of` (specs/Booking.antt) makes a booking of its fields alone.
 #[tactic(auto, unfolding(crate::specs::Booking::place_of))]
-fn place_of(b: Booking) -> usize
-    ensures value { result ≡ place_of b }
+fn place_of(b: &Booking) -> usize
+    ensures value { result ≡ place_of b.now }
     ensures inside { result < records }
 {
     if b.at < RECORDS { b.at } else { 0 }
@@ -188,28 +188,28 @@ fn stored(s: Station, x: Telling) -> Station
 }
 
 // The station is entered in its record.
-fn store(reg: &mut [Station], b: Booking)
+pub fn store(reg: &mut [Station], b: Booking)
     requires { length reg.old ≡ records }
     ensures { reg.new ≡ stored_in reg.old b }
 {
-    let k = place_of(b);
+    let k = place_of(&b);
     reg[k] = stored(reg[k], b.telling);
 }
 
 // ---- the book
 
 #[tactic(auto, unfolding(crate::specs::Booking::holder_of))]
-fn holder_of(b: Booking) -> u16
-    ensures value { result ≡ holder_of b }
+fn holder_of(b: &Booking) -> u16
+    ensures value { result ≡ holder_of b.now }
     ensures few { result ≤ records }
 {
     place_of(b) as u16 + 1
 }
 
 // The next time of the kind from d on. Where there is none, a run is at the end of the book: the place of a `Turn` is a number, since other runs always have a next one.
-fn next_from(b: Booking, d: usize, kind: Kind) -> usize
-    requires { (in_book b.rows ≡ true) × (d ≤ slot_times) }
-    ensures { Next (kind_time kind b.rows) d result }
+fn next_from(b: &Booking, d: usize, kind: Kind) -> usize
+    requires { (in_book b.now.rows ≡ true) × (d ≤ slot_times) }
+    ensures { Next (kind_time kind b.now.rows) d result }
 {
     next_time(b.rows, d, kind).unwrap_or(SLOT_TIMES)
 }
@@ -226,9 +226,9 @@ fn hand(book: &mut [u16], c: Counts, at: usize, h: u16, kind: Kind) -> Handing
 }
 
 // One time more. It is counted if it is the station's then.
-fn book_one(book: &mut [u16], t: Turn, b: Booking, kind: Kind) -> Turn
-    requires { Steps book.old t b }
-    ensures { BooksOne kind book.old t b result book.new }
+fn book_one(book: &mut [u16], t: Turn, b: &Booking, kind: Kind) -> Turn
+    requires { Steps book.old t b.now }
+    ensures { BooksOne kind book.old t b.now result book.new }
 {
     let p = place(b.watch.present, t.at);
     let h = holder_of(b);
@@ -262,16 +262,16 @@ impl<'a> Turns for Times<'a> {
     }
 
     fn step(&self, book: &mut [u16], t: Turn) -> Turn {
-        book_one(book, t, *self.booking, self.kind)
+        book_one(book, t, self.booking, self.kind)
     }
 }
 
 // What the report frees, or what it marks.
-fn book_all(reg: &mut [Station], book: &mut [u16], b: Booking, kind: Kind) -> Turn
-    requires { Booked reg.old book.old b }
-    ensures { BooksAll kind b reg.old book.old result reg.new book.new }
+fn book_all(reg: &mut [Station], book: &mut [u16], b: &Booking, kind: Kind) -> Turn
+    requires { Booked reg.old book.old b.now }
+    ensures { BooksAll kind b.now reg.old book.old result reg.new book.new }
 {
-    let times = Times { booking: &b, kind };
+    let times = Times { booking: b, kind };
     let first = next_from(b, 0, kind);
     run(
         reg,
@@ -282,8 +282,8 @@ fn book_all(reg: &mut [Station], book: &mut [u16], b: Booking, kind: Kind) -> Tu
 }
 
 // A struct update, here and where slots pass or become ours: each changes what it has to of the watch.
-fn watch_after(b: Booking, t: Turn) -> Watch
-    ensures { result ≡ with_counts b.watch t.handing.counts }
+fn watch_after(b: &Booking, t: Turn) -> Watch
+    ensures { result ≡ with_counts b.now.watch t.handing.counts }
 {
     Watch {
         channel: Channel {
@@ -295,25 +295,23 @@ fn watch_after(b: Booking, t: Turn) -> Watch
 }
 
 // What the report frees.
-fn free_times(reg: &mut [Station], book: &mut [u16], b: Booking) -> Booking
+pub fn free_times(reg: &mut [Station], book: &mut [u16], mut b: Booking) -> Booking
     requires { Booked reg.old book.old b }
     ensures { Ends (freed_out b reg.old book.old) result reg.new book.new }
 {
-    let t = book_all(reg, book, b, Kind::Free);
-    Booking {
-        watch: watch_after(b, t),
-        ..b
-    }
+    let t = book_all(reg, book, &b, Kind::Free);
+    b.watch = watch_after(&b, t);
+    b
 }
 
 // What it marks; the answer.
-fn mark_times(reg: &mut [Station], book: &mut [u16], b: Booking) -> Reply
+pub fn mark_times(reg: &mut [Station], book: &mut [u16], b: Booking) -> Reply
     requires { Booked reg.old book.old b }
     ensures { Ends (marked_out b reg.old book.old) result reg.new book.new }
 {
-    let t = book_all(reg, book, b, Kind::Mark);
+    let t = book_all(reg, book, &b, Kind::Mark);
     Reply {
-        watch: watch_after(b, t),
+        watch: watch_after(&b, t),
         answer: Ok(Answer::Heard(Marks {
             source: b.telling.source,
             marks: t.marks,

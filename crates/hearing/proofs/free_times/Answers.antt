@@ -7,7 +7,7 @@ pub returns : goal.returns
 returns c =
     let e = sym c.book_all-t.ensures.state in
     record {
-      answers = ap (rewatched c.args.b) (c.watch_after.ensures ∙ ap (λ (s : State). s.watch) e);
+      answers = ap (rewatched c.args.b) (c.watch_after-b.ensures ∙ ap (λ (s : State). s.watch) e);
       leaves = ap (λ (s : State). s.reg) e;
       writes = ap (λ (s : State). s.book) e;
     }
