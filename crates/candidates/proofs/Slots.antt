@@ -10,7 +10,8 @@ use native.Mathlib.Omega.{arith}
 use lib.ListN.{get_or}
 use borrow.Author.Tests.{eq-eqb, ne_eqb}
 use Rattle.laws.specs.Tests.{both}
-use Rattle.laws.specs.Ranges.{every}
+use Rattle.laws.specs.Counting.{one}
+use Rattle.laws.specs.Ranges.{every, how_many}
 use Rattle.laws.proofs.Tests.{both-no}
 use Rattle.limits.specs.Limits.{frame_slots, slot_times}
 use Rattle.ship.specs.declared.Station.{Station}
@@ -86,6 +87,20 @@ pub free-turn : (slots : List ℕ) (present at i p : ℕ) → p ≡ place presen
     → get_or slots p 0 ≡ 0 → every (λ i. is_none (frame slots present at i)) (i + 1) ≡ true
 free-turn slots present at i p q e z =
     every_more (λ i. is_none (frame slots present at i)) i e (none-held (frame slots present at i) (sym (held-there slots present at i p q) ∙ z))
+
+-- ---- counting to four
+
+module _ (p : ℕ → Bool) where
+  many-suc : (n : ℕ) → how_many p (suc n) ≡ how_many p n + one (p n)
+  unfolding how_many
+  many-suc n = refl
+
+  many-grows : (i d : ℕ) → how_many p i ≤ how_many p (i + d)
+  many-grows i zero = let e : i + 0 ≡ i = omega arith in omega (arith, ap (how_many p) e)
+  many-grows i (suc d) = let e : i + suc d ≡ suc (i + d) = omega arith in omega (arith, ap (how_many p) e, many-suc (i + d), many-grows i d)
+
+  pub many-upto : (i n : ℕ) → i ≤ n → how_many p i ≤ how_many p n
+  many-upto i n l = let e : i + (n - i) ≡ n = omega arith in omega (arith, ap (how_many p) (sym e), many-grows i (n - i))
 
 -- ---- the level of a holder
 

@@ -203,6 +203,9 @@ module _ (v : ℕ) (s : Taking) (raw : List ℕ) (word : v < 2 ^ 32) (so : Sound
 
 -- ---- step after step
 
+pub took-nothing : {raw : List ℕ} {s : Taking} → Sound s raw → Took [] s raw s raw
+took-nothing so = record { sound = so; more = omega arith; on = λ frame verdict rest g. g }
+
 pub took_more : {xs ys raw raw' raw'' : List ℕ} {s s' s'' : Taking} → Took xs s raw s' raw' → Took ys s' raw' s'' raw'' → Took (xs ++ ys) s raw s'' raw''
 took_more {xs} {ys} a b = record {
   sound = b.sound;
